@@ -1,0 +1,156 @@
+-- Laws of `times` and `climb`: as the loops that run them, and both ways round.
+--     prefix                what was read, then the rest
+--     times-start, times-step, times-stop, times-done     a loop over i of n readings
+--     climb-start, climb-step, climb-stop, climb-done     the same, each number above the one before it
+--     All, Rises            each value has a property; the values rise, from a floor up to a last one
+--     reads-times, reads-climb      reading what was written
+--     times-spelt, climb-spelt      the bytes of what was read
+use mathlib.Core.Path.{_≡_, refl, sym, ap, _∙_, subst}
+use mathlib.Core.Bool.{Bool, true}
+use mathlib.Core.List.{List, [], _∷_, _++_, append-assoc, append-nil}
+use Prim.Native.Nat.{ℕ, zero, suc, _+_, _-_, _^_, _≤_, _<_}
+use native.Mathlib.Omega.{arith}
+use lib.ListN.{length}
+use Rattle.number.specs.Bytes.{Bytes}
+use Rattle.number.specs.Encode.{encode}
+use Rattle.field.specs.Sheet.{Out, got, refused, Parser, andThen, _>>=_, _>>_, pure, require, times}
+use Rattle.field.specs.Field.{rising, climb}
+use Rattle.field.specs.Put.{spellAll}
+use Rattle.field.proofs.Sheet.{next, stops, Step, bind-got, pure-got}
+use Rattle.field.proofs.Read.{Reads, reads-bind, reads-checked, reads-pure, reads-rising}
+use Rattle.field.proofs.Spelt.{Spelt, spelt-none, spelt-join, rising-spelt}
+
+unfoldable pub prefix : {A : Type 0} → List A → Out (List A) → Out (List A)
+prefix xs (got ys e) = got (xs ++ ys) e
+prefix xs (refused n) = refused n
+
+-- nothing was read yet
+pub prefix-none : {A : Type 0} (o : Out (List A)) → o ≡ prefix [] o
+unfolding prefix
+prefix-none (got ys e) = refl
+prefix-none (refused n) = refl
+
+-- one value, then the rest
+prefix-one : {A : Type 0} (xs : List A) (a : A) (o : Out (List A)) → prefix xs (prefix (a ∷ []) o) ≡ prefix (xs ++ (a ∷ [])) o
+unfolding prefix
+prefix-one xs a (got ys e) = ap (λ z. got z e) (sym (append-assoc xs (a ∷ []) ys))
+prefix-one xs a (refused n) = refl
+
+-- a value before what a reader of lists gives
+listed : {A : Type 0} (a : A) (o : Out (List A)) → andThen o (λ vs n. got (a ∷ vs) n) ≡ prefix (a ∷ []) o
+unfolding andThen prefix
+listed a (got vs n) = refl
+listed a (refused n) = refl
+
+before-list : {A : Type 0} (a : A) (q : Parser (List A)) (s : List ℕ) (at : ℕ) → (q >>= λ vs. pure (a ∷ vs)) s at ≡ prefix (a ∷ []) (q s at)
+unfolding _>>=_ pure
+before-list a q s at = listed a (q s at)
+
+-- ---- times, as a loop
+
+module _ {A : Type 0} (p : Parser A) (s : List ℕ) where
+  times-more : (k at : ℕ) {a : A} {e : ℕ} → p s at ≡ got a e → times (suc k) p s at ≡ prefix (a ∷ []) (times k p s e)
+  unfolding times
+  times-more k at h = next p _ s at h ∙ before-list _ (times k p) s _
+
+  pub times-start : (n at : ℕ) → times n p s at ≡ prefix [] (times (n - 0) p s at)
+  times-start n at = let e : n - 0 ≡ n = omega arith in rw e (prefix-none (times n p s at))
+
+  pub times-step : (n i at : ℕ) (xs : List A) {a : A} {e : ℕ} → i < n → p s at ≡ got a e → prefix xs (times (n - i) p s at) ≡ prefix (xs ++ (a ∷ [])) (times (n - (i + 1)) p s e)
+  times-step n i at xs {a} {e} l h =
+      let k : n - i ≡ suc (n - (i + 1)) = omega arith in
+      ap (λ (m : ℕ). prefix xs (times m p s at)) k ∙ ap (prefix xs) (times-more (n - (i + 1)) at h) ∙ prefix-one xs a (times (n - (i + 1)) p s e)
+
+  pub times-stop : (n i at : ℕ) (xs : List A) {m : ℕ} → i < n → p s at ≡ refused m → prefix xs (times (n - i) p s at) ≡ refused m
+  unfolding times prefix
+  times-stop n i at xs l h =
+      let k : n - i ≡ suc (n - (i + 1)) = omega arith in
+      ap (λ (m : ℕ). prefix xs (times m p s at)) k ∙ ap (prefix xs) (stops p _ s at h)
+
+  pub times-done : (n i at : ℕ) (xs : List A) → n ≤ i → prefix xs (times (n - i) p s at) ≡ got xs at
+  unfolding times prefix pure
+  times-done n i at xs l =
+      let k : n - i ≡ 0 = omega arith in
+      ap (λ (m : ℕ). prefix xs (times m p s at)) k ∙ ap (λ z. got z at) (append-nil xs)
+
+-- ---- climb, as a loop
+
+module _ (high : ℕ) (s : List ℕ) where
+  climb-more : (k floor at : ℕ) {v e : ℕ} → rising floor high s at ≡ got v e → climb (suc k) floor high s at ≡ prefix (v ∷ []) (climb k (v + 1) high s e)
+  unfolding climb
+  climb-more k floor at {v} {e} h = next (rising floor high) _ s at h ∙ before-list v (climb k (v + 1) high) s e
+
+  pub climb-start : (n floor at : ℕ) → climb n floor high s at ≡ prefix [] (climb (n - 0) floor high s at)
+  climb-start n floor at = let e : n - 0 ≡ n = omega arith in rw e (prefix-none (climb n floor high s at))
+
+  pub climb-step : (n i floor at : ℕ) (xs : List ℕ) {v e : ℕ} → i < n → rising floor high s at ≡ got v e → prefix xs (climb (n - i) floor high s at) ≡ prefix (xs ++ (v ∷ [])) (climb (n - (i + 1)) (v + 1) high s e)
+  climb-step n i floor at xs {v} {e} l h =
+      let k : n - i ≡ suc (n - (i + 1)) = omega arith in
+      ap (λ (m : ℕ). prefix xs (climb m floor high s at)) k ∙ ap (prefix xs) (climb-more (n - (i + 1)) floor at h) ∙ prefix-one xs v (climb (n - (i + 1)) (v + 1) high s e)
+
+  pub climb-stop : (n i floor at : ℕ) (xs : List ℕ) {m : ℕ} → i < n → rising floor high s at ≡ refused m → prefix xs (climb (n - i) floor high s at) ≡ refused m
+  unfolding climb prefix
+  climb-stop n i floor at xs l h =
+      let k : n - i ≡ suc (n - (i + 1)) = omega arith in
+      ap (λ (m : ℕ). prefix xs (climb m floor high s at)) k ∙ ap (prefix xs) (stops (rising floor high) _ s at h)
+
+  pub climb-done : (n i floor at : ℕ) (xs : List ℕ) → n ≤ i → prefix xs (climb (n - i) floor high s at) ≡ got xs at
+  unfolding climb prefix pure
+  climb-done n i floor at xs l =
+      let k : n - i ≡ 0 = omega arith in
+      ap (λ (m : ℕ). prefix xs (climb m floor high s at)) k ∙ ap (λ z. got z at) (append-nil xs)
+
+-- ---- reading what was written
+
+unfoldable pub All : {A : Type 0} → (A → Type 0) → List A → Type 0
+All P [] = Unit
+All P (a ∷ rest) = P a × All P rest
+
+unfoldable pub Rises : ℕ → ℕ → List ℕ → Type 0
+Rises floor high [] = Unit
+Rises floor high (v ∷ vs) = (floor ≤ v) × (v ≤ high) × Rises (v + 1) high vs
+
+pub reads-times : {A : Type 0} (p : Parser A) (spell : A → List ℕ) (P : A → Type 0) → ((a : A) → P a → Reads p (spell a) a) → (vs : List A) → All P vs → Reads (times (length vs) p) (spellAll spell vs) vs
+unfolding times spellAll All
+reads-times p spell P one [] h = reads-pure []
+reads-times p spell P one (a ∷ vs) h = reads-bind _ (one a (h .0)) (reads-checked _ (reads-times p spell P one vs (h .1)) (reads-pure (a ∷ vs)))
+
+pub reads-climb : (high : ℕ) → high < 2 ^ 32 → (floor : ℕ) (vs : List ℕ) → Rises floor high vs → Reads (climb (length vs) floor high) (spellAll encode vs) vs
+unfolding climb spellAll Rises
+reads-climb high h floor [] r = reads-pure []
+reads-climb high h floor (v ∷ vs) r =
+    reads-bind _ (reads-rising floor high v (r .0) (r .1) (omega (arith, r .1)))
+    (reads-checked _ (reads-climb high h (v + 1) vs (r .2)) (reads-pure (v ∷ vs)))
+
+-- ---- the bytes of what was read
+
+moved : {A : Type 0} (Q : List A → ℕ → Type 0) {vs ws : List A} {m e : ℕ} → vs ≡ ws → m ≡ e → Q vs m → Q ws e
+moved Q {vs} {ws} {m} {e} p q x = subst (λ z. Q z e) p (subst (λ k. Q vs k) q x)
+
+pub times-spelt : {A : Type 0} (p : Parser A) (spell : A → List ℕ) (P : A → Type 0) (s : List ℕ) → ((at : ℕ) (a : A) (e : ℕ) → p s at ≡ got a e → Spelt s at e (spell a) × P a) → (n at : ℕ) (vs : List A) (e : ℕ) → at ≤ length s → times n p s at ≡ got vs e → Spelt s at e (spellAll spell vs) × (length vs ≡ n) × All P vs
+unfolding times spellAll All
+times-spelt p spell P s one zero at vs e l h =
+    let q : ([] ≡ vs) × (at ≡ e) = pure-got [] vs s at e h in
+    rw (sym (q .0), sym (q .1)) (spelt-none s at l, refl, tt)
+times-spelt {A} p spell P s one (suc n) at vs e l h =
+    let w : Step (p s at) (λ a m. (times n p >>= λ rest. pure (a ∷ rest)) s m) vs e = bind-got p s at vs e (λ a. times n p >>= λ rest. pure (a ∷ rest)) h in
+    let u : Step (times n p s (w .mid)) (λ rest m. pure (w .found ∷ rest) s m) vs e = bind-got (times n p) s (w .mid) vs e (λ rest. pure (w .found ∷ rest)) (w .last) in
+    let q : (w .found ∷ u .found ≡ vs) × (u .mid ≡ e) = pure-got (w .found ∷ u .found) vs s (u .mid) e (u .last) in
+    let f : Spelt s at (w .mid) (spell (w .found)) × P (w .found) = one at (w .found) (w .mid) (w .first) in
+    let g : Spelt s (w .mid) (u .mid) (spellAll spell (u .found)) × (length (u .found) ≡ n) × All P (u .found) = times-spelt p spell P s one n (w .mid) (u .found) (u .mid) (f .0 .within) (u .first) in
+    moved (λ z k. Spelt s at k (spellAll spell z) × (length z ≡ suc n) × All P z) (q .0) (q .1)
+    (spelt-join (f .0) (g .0), ap suc (g .1), (f .1, g .2))
+
+pub climb-spelt : (high : ℕ) (s : List ℕ) → Bytes s → (n floor at : ℕ) (vs : List ℕ) (e : ℕ) → at ≤ length s → climb n floor high s at ≡ got vs e → Spelt s at e (spellAll encode vs) × (length vs ≡ n) × Rises floor high vs
+unfolding climb spellAll Rises
+climb-spelt high s b zero floor at vs e l h =
+    let q : ([] ≡ vs) × (at ≡ e) = pure-got [] vs s at e h in
+    rw (sym (q .0), sym (q .1)) (spelt-none s at l, refl, tt)
+climb-spelt high s b (suc n) floor at vs e l h =
+    let w : Step (rising floor high s at) (λ v m. (climb n (v + 1) high >>= λ rest. pure (v ∷ rest)) s m) vs e = bind-got (rising floor high) s at vs e (λ v. climb n (v + 1) high >>= λ rest. pure (v ∷ rest)) h in
+    let u : Step (climb n (w .found + 1) high s (w .mid)) (λ rest m. pure (w .found ∷ rest) s m) vs e = bind-got (climb n (w .found + 1) high) s (w .mid) vs e (λ rest. pure (w .found ∷ rest)) (w .last) in
+    let q : (w .found ∷ u .found ≡ vs) × (u .mid ≡ e) = pure-got (w .found ∷ u .found) vs s (u .mid) e (u .last) in
+    let f : Spelt s at (w .mid) (encode (w .found)) × (w .found ≤ high) × (floor ≤ w .found) = rising-spelt s at (w .found) (w .mid) b floor high (w .first) in
+    let g : Spelt s (w .mid) (u .mid) (spellAll encode (u .found)) × (length (u .found) ≡ n) × Rises (w .found + 1) high (u .found) = climb-spelt high s b n (w .found + 1) (w .mid) (u .found) (u .mid) (f .0 .within) (u .first) in
+    moved (λ z k. Spelt s at k (spellAll encode z) × (length z ≡ suc n) × Rises floor high z) (q .0) (q .1)
+    (spelt-join (f .0) (g .0), ap suc (g .1), (f .2, f .1, g .2))

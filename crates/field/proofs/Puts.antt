@@ -1,0 +1,116 @@
+-- Laws of fields put into a lent buffer.
+--     put-past, put-of     what one field leaves
+--     written-none, written-more     these bytes from here on, all else as it was: no field yet, and one more
+use mathlib.Core.Path.{_≡_, refl, sym, ap, _∙_}
+use mathlib.Core.List.{List, [], _∷_, _++_, append-assoc}
+use Prim.Native.Nat.{ℕ, _+_, _-_, _≤_, _<_}
+use native.Mathlib.Omega.{arith}
+use borrow.Author.Tests.{le-leb, lt-leb, leb-true, leb-false}
+use borrow.Rule.Slice.PartMut.{putMid}
+use lib.Dec.{leb}
+use lib.ListN.{length, take, drop, length-append, length-drop, take-append-drop}
+use lib.Seq.{length-take-le, drop-drop, take-at, drop-append-add}
+use Rattle.number.specs.Encode.{encode, widthOf, Wrote, written, putFirst, fits}
+use Rattle.number.proofs.Choice.{pick-true, pick-false, pick-elim, either}
+use Rattle.number.proofs.Encode.{width-bounds, wrote-room, wrote-none}
+use Rattle.number.proofs.Part.{rest, put-rest}
+use Rattle.field.specs.Put.{paste, hasRoom, Put, Written}
+
+-- ---- one field
+
+module _ (v : ℕ) (out : List ℕ) (at : ℕ) where
+  pub put-room : at + widthOf v ≤ length out → Put v out at (at + widthOf v) (paste out at (encode v))
+  unfolding hasRoom
+  put-room h = record { place = sym (pick-true _ _ (le-leb _ _ h)); held = sym (pick-true _ _ (le-leb _ _ h)) }
+
+  pub put-none : length out < at + widthOf v → Put v out at at out
+  unfolding hasRoom
+  put-none h = record { place = sym (pick-false _ _ (lt-leb _ _ h)); held = sym (pick-false _ _ (lt-leb _ _ h)) }
+
+  -- past the end nothing has room
+  pub put-past : length out < at → Put v out at at out
+  put-past h = put-none (omega arith)
+
+  -- the number writer's work in `&mut out[at..]`
+  module _ (n : ℕ) (ys : List ℕ) (h : at ≤ length out) (w : Wrote v (take (length out - at) (drop at out)) n ys) where
+    part : take (length out - at) (drop at out) ≡ drop at out
+    part = rest out at
+
+    pub put-of : Put v out at (at + n) (putMid at (length out - at) out ys)
+    unfolding paste widthOf
+    put-of =
+        either (leb (widthOf v) (length (drop at out)))
+        (λ t.
+        let room : widthOf v ≤ length (drop at out) = leb-true _ _ t in
+        let u : Wrote v (drop at out) (widthOf v) (encode v ++ drop (widthOf v) (drop at out)) = wrote-room v (drop at out) room in
+        let here : Wrote v (drop at out) n ys = rw part at w in
+        let p : Put v out at (at + widthOf v) (paste out at (encode v)) = put-room (omega (arith, length-drop at out)) in
+        record {
+          place = ap (λ (k : ℕ). at + k) (here .count ∙ sym (u .count)) ∙ p .place;
+          held = put-rest out at ys ∙ ap (λ (z : List ℕ). take at out ++ z) (here .left ∙ sym (u .left) ∙ ap (λ (z : List ℕ). encode v ++ z) (drop-drop (widthOf v) at out)) ∙ p .held;
+        })
+        (λ f.
+        let full : length (drop at out) < widthOf v = leb-false _ _ f in
+        let u : Wrote v (drop at out) 0 (drop at out) = wrote-none v (drop at out) full in
+        let here : Wrote v (drop at out) n ys = rw part at w in
+        let p : Put v out at at out = put-none (omega (arith, length-drop at out)) in
+        record {
+          place = omega (arith, here .count, u .count) ∙ p .place;
+          held = put-rest out at ys ∙ ap (λ (z : List ℕ). take at out ++ z) (here .left ∙ sym (u .left)) ∙ take-append-drop at out ∙ p .held;
+        })
+
+-- ---- field after field
+
+-- a buffer keeps its length
+pub length-paste : (out : List ℕ) (at : ℕ) (bs : List ℕ) → at + length bs ≤ length out → length (paste out at bs) ≡ length out
+unfolding paste
+length-paste out at bs h = simp (length-append, length-drop) (omega (arith, length-take-le at out (omega arith)))
+
+-- bytes behind bytes
+paste-paste : (out : List ℕ) (at : ℕ) (bs cs : List ℕ) → at + length bs + length cs ≤ length out → paste (paste out at bs) (at + length bs) cs ≡ paste out at (bs ++ cs)
+unfolding paste
+paste-paste out at bs cs h =
+    let n : length (take at out ++ bs) ≡ at + length bs = length-append (take at out) bs ∙ ap (λ (k : ℕ). k + length bs) (length-take-le at out (omega arith)) in
+    let e : take at out ++ (bs ++ drop (at + length bs) out) ≡ (take at out ++ bs) ++ drop (at + length bs) out = sym (append-assoc (take at out) bs (drop (at + length bs) out)) in
+    let sum : at + length bs + length cs ≡ at + length (bs ++ cs) = omega (arith, length-append bs cs) in
+    let before : take (at + length bs) (take at out ++ (bs ++ drop (at + length bs) out)) ≡ take at out ++ bs =
+    ap (take (at + length bs)) e ∙ take-at (take at out ++ bs) (drop (at + length bs) out) (at + length bs) n in
+    let behind : drop (at + length bs + length cs) (take at out ++ (bs ++ drop (at + length bs) out)) ≡ drop (at + length (bs ++ cs)) out =
+    ap (drop (at + length bs + length cs)) e
+    ∙ ap (λ (k : ℕ). drop (k + length cs) ((take at out ++ bs) ++ drop (at + length bs) out)) (sym n)
+    ∙ drop-append-add (take at out ++ bs) (drop (at + length bs) out) (length cs)
+    ∙ drop-drop (length cs) (at + length bs) out
+    ∙ ap (λ (k : ℕ). drop k out) sum in
+    ap (λ (x : List ℕ). x ++ (cs ++ drop (at + length bs + length cs) (take at out ++ (bs ++ drop (at + length bs) out)))) before
+    ∙ ap (λ (x : List ℕ). (take at out ++ bs) ++ (cs ++ x)) behind
+    ∙ append-assoc (take at out) bs (cs ++ drop (at + length (bs ++ cs)) out)
+    ∙ ap (λ (x : List ℕ). take at out ++ x) (sym (append-assoc bs cs (drop (at + length (bs ++ cs)) out)))
+
+-- no field yet
+pub written-none : (out : List ℕ) (at : ℕ) → at ≤ length out → Written out at [] out at
+unfolding paste
+written-none out at h =
+    let e : at + 0 ≡ at = omega arith in
+    record {
+      fit = omega arith;
+      held = sym (ap (λ (k : ℕ). take at out ++ drop k out) e ∙ take-append-drop at out);
+      place = sym e;
+    }
+
+-- one field more
+pub written-more : {out : List ℕ} {at : ℕ} {bs mid : List ℕ} {p : ℕ} {v next : ℕ} {after : List ℕ} → Written out at bs mid p → Put v mid p next after → p + widthOf v ≤ length out → Written out at (bs ++ encode v) after next
+unfolding widthOf
+written-more {out} {at} {bs} {mid} {p} {v} {next} {after} w f h =
+    let same : length mid ≡ length out = ap length (w .held) ∙ length-paste out at bs (w .fit) in
+    let r : Put v mid p (p + widthOf v) (paste mid p (encode v)) = put-room v mid p (omega (arith, same)) in
+    record {
+      fit = omega (arith, length-append bs (encode v), w .place);
+      held = f .held ∙ sym (r .held) ∙ ap (λ (k : ℕ). paste mid k (encode v)) (w .place) ∙ ap (λ (x : List ℕ). paste x (at + length bs) (encode v)) (w .held)
+          ∙ paste-paste out at bs (encode v) (omega (arith, w .place));
+      place = f .place ∙ sym (r .place) ∙ omega (arith, length-append bs (encode v), w .place);
+    }
+
+-- what was written lies within the part
+pub wrote-fits : (v : ℕ) (out : List ℕ) (n : ℕ) (ys : List ℕ) → Wrote v out n ys → n ≤ length out
+unfolding written fits
+wrote-fits v out n ys w = rw (w .count) (pick-elim (λ (k : ℕ). k ≤ length out) _ _ _ (λ t. leb-true _ _ t) (λ _. omega arith))

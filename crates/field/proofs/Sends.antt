@@ -1,0 +1,47 @@
+-- Laws of `Sent`: the three ways in which a writer of sheets ends, and that there is no fourth.
+use mathlib.Core.Path.{_≡_, refl, sym, ap, _∙_}
+use mathlib.Core.List.{List}
+use Prim.Native.Nat.{ℕ, _+_, _≤_, _<_}
+use native.Mathlib.Omega.{arith}
+use borrow.Author.Tests.{le-leb, lt-leb}
+use lib.ListN.{length}
+use Rattle.number.proofs.Choice.{pick-true, pick-false}
+use Rattle.field.specs.declared.Written.{Written}
+use Rattle.field.specs.declared.Written.the-variants.{Length, Refused}
+use Rattle.field.specs.declared.Refusal.{Refusal}
+use Rattle.field.specs.declared.Refusal.the-variants.{NoRoom}
+use Rattle.field.specs.Put.{Written as Wrote}
+use Rattle.field.specs.Refusal.{numberOf}
+use Rattle.field.specs.Send.{Draft, sheet, none, toldWritten, answerTo, leftBy, Sent}
+use Rattle.field.specs.Sheet.{Out, got, refused}
+use Rattle.field.proofs.Unique.{number-injective}
+
+-- there is no sheet: refused, and nothing has changed
+pub sent-refused : (e : Refusal) (out : List ℕ) → Sent (none (numberOf e)) out (Refused e) out
+unfolding toldWritten answerTo leftBy
+sent-refused e out = record { answer = refl; held = refl }
+
+-- it is longer than the buffer: refused with 11, and nothing has changed
+pub sent-long : (bs out : List ℕ) → length out < length bs → Sent (sheet bs) out (Refused NoRoom) out
+unfolding toldWritten answerTo leftBy numberOf
+sent-long bs out h = record { answer = sym (pick-false _ _ (lt-leb _ _ h)); held = sym (pick-false _ _ (lt-leb _ _ h)) }
+
+-- it was written from the first byte on
+pub sent-fits : {bs out : List ℕ} {n : ℕ} {after : List ℕ} → Wrote out 0 bs after n → Sent (sheet bs) out (Length n) after
+unfolding toldWritten answerTo leftBy
+sent-fits {bs} {out} {n} {after} w =
+    let l : length bs ≤ length out = omega (arith, w .fit) in
+    let e : n ≡ length bs = omega (arith, w .place) in
+    record { answer = ap (got tt) e ∙ sym (pick-true _ _ (le-leb _ _ l)); held = w .held ∙ sym (pick-true _ _ (le-leb _ _ l)) }
+
+-- two answers that say the same are the same
+pub written-injective : (a b : Written) → toldWritten a ≡ toldWritten b → a ≡ b
+unfolding toldWritten
+written-injective (Length n) (Length m) h = cc
+written-injective (Length n) (Refused q) h = cc
+written-injective (Refused r) (Length m) h = cc
+written-injective (Refused r) (Refused q) h = let n : numberOf r ≡ numberOf q = cc in ap Refused (number-injective r q n)
+
+-- a draft and a buffer leave one answer and one buffer
+pub sent-unique : (d : Draft) (out : List ℕ) (a b : Written) (x y : List ℕ) → Sent d out a x → Sent d out b y → (a ≡ b) × (x ≡ y)
+sent-unique d out a b x y p q = (written-injective a b (p .answer ∙ sym (q .answer)), p .held ∙ sym (q .held))

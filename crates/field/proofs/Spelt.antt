@@ -1,0 +1,130 @@
+-- Writing after reading: the bytes of what a reader accepted.
+--     Spelt s at e bs      from `at` to `e` the sheet has these bytes
+--     spelt-none, spelt-join, spelt-whole      no field, field after field, a whole sheet
+--     number-spelt, exactly-spelt, tenancy-spelt, inside-spelt, rising-spelt     one field, and what is known of its value
+use mathlib.Core.Path.{_≡_, refl, sym, ap, _∙_}
+use mathlib.Core.Bool.{Bool, true, false}
+use mathlib.Core.List.{List, [], _∷_, _++_, append-assoc, append-nil}
+use Prim.Native.Nat.{ℕ, _+_, _-_, _^_, _≤_, _<_}
+use native.Mathlib.Omega.{arith}
+use borrow.Author.Tests.{eqb-true, leb-true, ltb-true}
+use lib.Dec.{eqb, leb, ltb}
+use lib.ListN.{length, drop, length-append, length-drop}
+use lib.Seq.{getD-drop, drop-drop, drop-length}
+use Rattle.number.specs.Bytes.{Bytes}
+use Rattle.number.specs.Decode.{Decoded, value, decode}
+use Rattle.number.specs.Decode.{refused as bad}
+use Rattle.number.specs.Encode.{encode, widthOf}
+use Rattle.number.specs.Choice.{pick}
+use Rattle.number.proofs.Encode.{width-bounds}
+use Rattle.number.proofs.RoundTrip.{Begins, decode-exact}
+use Rattle.number.proofs.Choice.{pick-true, pick-false, either}
+use Rattle.field.specs.Sheet.{Out, got, refused, Parser, _>>=_, _>>_, pure, require}
+use Rattle.field.specs.Field.{taken, number, exactly, tenancy, inside, rising, end, whole}
+use Rattle.field.proofs.Sheet.{Step, bind-got, after-got, passed, pure-got}
+
+pub record Spelt (s : List ℕ) (at e : ℕ) (bs : List ℕ) : Type 0 where
+  pub within : e ≤ length s
+  pub place : e ≡ at + length bs
+  pub bytes : drop at s ≡ bs ++ drop e s
+
+-- ---- field after field
+
+pub spelt-none : (s : List ℕ) (at : ℕ) → at ≤ length s → Spelt s at at []
+spelt-none s at h = record { within = h; place = omega arith; bytes = refl }
+
+pub spelt-join : {s : List ℕ} {at mid e : ℕ} {bs cs : List ℕ} → Spelt s at mid bs → Spelt s mid e cs → Spelt s at e (bs ++ cs)
+spelt-join {s} {at} {mid} {e} {bs} {cs} f g = record {
+  within = g .within;
+  place = omega (arith, f .place, g .place, length-append bs cs);
+  bytes = f .bytes ∙ ap (λ (x : List ℕ). bs ++ x) (g .bytes) ∙ sym (append-assoc bs cs (drop e s));
+}
+
+-- ---- any number
+
+decoded : (s : List ℕ) (at v e : ℕ) (d : Decoded) → taken at d ≡ got v e → (n : ℕ) × (d ≡ value v n) × (e ≡ at + n)
+unfolding taken
+decoded s at v e (value w n) h = (n, cc, cc)
+decoded s at v e (bad m) h = absurd (let z : _≡_ {A = ℕ} 0 1 = cc in omega arith)
+
+drop-bytes : (s : List ℕ) (at : ℕ) → Bytes s → Bytes (drop at s)
+unfolding Bytes
+drop-bytes s at h i = rw (getD-drop at s i 0) (h (at + i))
+
+pub number-spelt : (s : List ℕ) (at v e : ℕ) → Bytes s → number s at ≡ got v e → Spelt s at e (encode v) × (v < 2 ^ 32)
+unfolding number widthOf
+number-spelt s at v e b h =
+    let d : (n : ℕ) × (decode (drop at s) ≡ value v n) × (e ≡ at + n) = decoded s at v e (decode (drop at s)) h in
+    let x : Begins (drop at s) (d .0) (encode v) × (v < 2 ^ 32) = decode-exact (drop at s) v (d .0) (drop-bytes s at b) (d .1) in
+    let long : length (drop at s) ≡ length (encode v) + length (drop (d .0) (drop at s)) = ap length (x .0 .bytes) ∙ length-append (encode v) (drop (d .0) (drop at s)) in (
+      record {
+        within = omega (arith, d .2, x .0 .count, long, length-drop at s, width-bounds v);
+        place = omega (arith, d .2, x .0 .count);
+        bytes = x .0 .bytes ∙ ap (λ (y : List ℕ). encode v ++ y) (drop-drop (d .0) at s ∙ ap (λ (k : ℕ). drop k s) (sym (d .2)));
+      },
+      x .1,
+    )
+
+-- ---- a number that passed its checks
+
+one-test : (t : ℕ → Bool) (m : ℕ) (s : List ℕ) (at v e : ℕ) → (number >>= λ x. require (t x) m >> pure x) s at ≡ got v e → (number s at ≡ got v e) × (t v ≡ true)
+one-test t m s at v e h =
+    let w : Step (number s at) (λ x n. (require (t x) m >> pure x) s n) v e = bind-got number s at v e (λ x. require (t x) m >> pure x) h in
+    let g : (t (w .found) ≡ true) × (pure (w .found) s (w .mid) ≡ got v e) = passed _ m _ s (w .mid) v e (w .last) in
+    let p : (w .found ≡ v) × (w .mid ≡ e) = pure-got _ _ s _ _ (g .1) in
+    (w .first ∙ ap (λ (x : ℕ). got x (w .mid)) (p .0) ∙ ap (got v) (p .1), ap t (sym (p .0)) ∙ g .0)
+
+two-tests : (t u : ℕ → Bool) (m n : ℕ) (s : List ℕ) (at v e : ℕ) → (number >>= λ x. require (t x) m >> (require (u x) n >> pure x)) s at ≡ got v e → (number s at ≡ got v e) × (t v ≡ true) × (u v ≡ true)
+two-tests t u m n s at v e h =
+    let w : Step (number s at) (λ x k. (require (t x) m >> (require (u x) n >> pure x)) s k) v e = bind-got number s at v e (λ x. require (t x) m >> (require (u x) n >> pure x)) h in
+    let g : (t (w .found) ≡ true) × ((require (u (w .found)) n >> pure (w .found)) s (w .mid) ≡ got v e) = passed _ m _ s (w .mid) v e (w .last) in
+    let k : (u (w .found) ≡ true) × (pure (w .found) s (w .mid) ≡ got v e) = passed _ n _ s (w .mid) v e (g .1) in
+    let p : (w .found ≡ v) × (w .mid ≡ e) = pure-got _ _ s _ _ (k .1) in
+    (w .first ∙ ap (λ (x : ℕ). got x (w .mid)) (p .0) ∙ ap (got v) (p .1), ap t (sym (p .0)) ∙ g .0, ap u (sym (p .0)) ∙ k .0)
+
+module _ (s : List ℕ) (at v e : ℕ) (b : Bytes s) where
+  pub exactly-spelt : (want n : ℕ) → exactly want n s at ≡ got v e → Spelt s at e (encode v) × (v ≡ want)
+  unfolding exactly
+  exactly-spelt want n h =
+      let w : (number s at ≡ got v e) × (eqb v want ≡ true) = one-test (λ x. eqb x want) n s at v e h in
+      (number-spelt s at v e b (w .0) .0, eqb-true v want (w .1))
+
+  pub tenancy-spelt : (want : ℕ) → tenancy want s at ≡ got v e → Spelt s at e (encode v) × (v ≡ want) × (0 < v)
+  unfolding tenancy
+  tenancy-spelt want h =
+      let w : (number s at ≡ got v e) × (eqb v want ≡ true) × (ltb 0 v ≡ true) = two-tests (λ x. eqb x want) (λ x. ltb 0 x) 5 5 s at v e h in
+      (number-spelt s at v e b (w .0) .0, eqb-true v want (w .1), ltb-true 0 v (w .2))
+
+  pub inside-spelt : (low high : ℕ) → inside low high s at ≡ got v e → Spelt s at e (encode v) × (low ≤ v) × (v ≤ high)
+  unfolding inside
+  inside-spelt low high h =
+      let w : (number s at ≡ got v e) × (leb low v ≡ true) × (leb v high ≡ true) = two-tests (λ x. leb low x) (λ x. leb x high) 6 6 s at v e h in
+      (number-spelt s at v e b (w .0) .0, leb-true low v (w .1), leb-true v high (w .2))
+
+  pub rising-spelt : (floor high : ℕ) → rising floor high s at ≡ got v e → Spelt s at e (encode v) × (v ≤ high) × (floor ≤ v)
+  unfolding rising
+  rising-spelt floor high h =
+      let w : (number s at ≡ got v e) × (leb v high ≡ true) × (leb floor v ≡ true) = two-tests (λ x. leb x high) (λ x. leb floor x) 6 8 s at v e h in
+      (number-spelt s at v e b (w .0) .0, leb-true v high (w .1), leb-true floor v (w .2))
+
+-- ---- a whole sheet
+
+end-got : (s : List ℕ) (at v e : ℕ) → end s at ≡ got v e → (at ≡ length s) × (e ≡ at)
+unfolding end
+end-got s at v e h =
+    either (eqb at (length s))
+    (λ t. let g : got 0 at ≡ got v e = sym (pick-true _ _ t) ∙ h in (eqb-true _ _ t, cc))
+    (λ f. let g : refused 9 ≡ got v e = sym (pick-false _ _ f) ∙ h in absurd (let z : _≡_ {A = ℕ} 0 1 = cc in omega arith))
+
+-- a sheet that is accepted ends where its fields do
+pub whole-got : {A : Type 0} (p : Parser A) (s : List ℕ) (a : A) (e : ℕ) → whole p s 0 ≡ got a e → (p s 0 ≡ got a e) × (e ≡ length s)
+unfolding whole
+whole-got p s a e h =
+    let w : Step (p s 0) (λ x n. (end >> pure x) s n) a e = bind-got p s 0 a e (λ x. end >> pure x) h in
+    let g : Step (end s (w .mid)) (λ _ n. pure (w .found) s n) a e = after-got end s (w .mid) a e (pure (w .found)) (w .last) in
+    let q : (w .mid ≡ length s) × (g .mid ≡ w .mid) = end-got s (w .mid) (g .found) (g .mid) (g .first) in
+    let r : (w .found ≡ a) × (g .mid ≡ e) = pure-got _ _ s _ _ (g .last) in
+    (w .first ∙ ap (λ x. got x (w .mid)) (r .0) ∙ ap (got a) (sym (q .1) ∙ r .1), sym (r .1) ∙ q .1 ∙ q .0)
+
+pub spelt-whole : (s : List ℕ) (e : ℕ) (bs : List ℕ) → e ≡ length s → Spelt s 0 e bs → s ≡ bs
+spelt-whole s e bs h x = x .bytes ∙ ap (λ (k : ℕ). bs ++ drop k s) h ∙ ap (λ (y : List ℕ). bs ++ y) (drop-length s) ∙ append-nil bs

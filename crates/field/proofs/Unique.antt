@@ -1,0 +1,70 @@
+-- Each promise of this crate fixes the answer: no second one satisfies it.
+use mathlib.Core.Path.{_≡_, refl, sym, ap, _∙_}
+use mathlib.Core.List.{List}
+use Prim.Native.Nat.{ℕ}
+use native.Mathlib.Omega.{arith}
+use lib.Dec.{eqb}
+use Rattle.number.specs.Choice.{pick}
+use Rattle.field.specs.declared.Field.{Field}
+use Rattle.field.specs.declared.Field.the-variants.{Got, Refused}
+use Rattle.field.specs.declared.Refusal.{Refusal}
+use Rattle.field.specs.declared.Refusal.the-variants.{Ends, Malformed, Kind, Unit, Tenancy, Range, NoCopies, NotRising, Extra, NoSettings, NoRoom, Rented, NotAbove, NotTenant}
+use Rattle.field.specs.Put.{Put}
+use Rattle.field.specs.Refusal.{numberOf}
+use Rattle.field.specs.Sheet.{Out, got, refused}
+use Rattle.field.specs.Told.{told}
+
+-- the refusal of a number of the paper
+named : ℕ → Refusal
+named n =
+    pick (eqb n 1) Ends
+    (pick (eqb n 2) Malformed
+    (pick (eqb n 3) Kind
+    (pick (eqb n 4) Unit
+    (pick (eqb n 5) Tenancy
+    (pick (eqb n 6) Range
+    (pick (eqb n 7) NoCopies
+    (pick (eqb n 8) NotRising
+    (pick (eqb n 9) Extra
+    (pick (eqb n 10) NoSettings
+    (pick (eqb n 11) NoRoom
+    (pick (eqb n 12) Rented
+    (pick (eqb n 13) NotAbove
+    NotTenant))))))))))))
+
+named-number : (r : Refusal) → named (numberOf r) ≡ r
+unfolding named numberOf pick
+named-number Ends = refl
+named-number Malformed = refl
+named-number Kind = refl
+named-number Unit = refl
+named-number Tenancy = refl
+named-number Range = refl
+named-number NoCopies = refl
+named-number NotRising = refl
+named-number Extra = refl
+named-number NoSettings = refl
+named-number NoRoom = refl
+named-number Rented = refl
+named-number NotAbove = refl
+named-number NotTenant = refl
+
+-- no two refusals have one number
+pub number-injective : (a b : Refusal) → numberOf a ≡ numberOf b → a ≡ b
+number-injective a b h = sym (named-number a) ∙ ap named h ∙ named-number b
+
+-- two answers that say the same are the same
+pub told-injective : (a b : Field) → told a ≡ told b → a ≡ b
+unfolding told
+told-injective (Got v e) (Got w f) h = cc
+told-injective (Got v e) (Refused q) h = cc
+told-injective (Refused r) (Got w f) h = cc
+told-injective (Refused r) (Refused q) h = let n : numberOf r ≡ numberOf q = cc in ap Refused (number-injective r q n)
+
+-- the readers: whatever the definition says of a sheet and a place, one answer says it
+pub reader-unique : (o : Out ℕ) (a b : Field) → told a ≡ o → told b ≡ o → a ≡ b
+reader-unique o a b p q = told-injective a b (p ∙ sym q)
+
+-- `put`: the place and the buffer
+pub put-unique : (v : ℕ) (out : List ℕ) (at n m : ℕ) (x y : List ℕ) → Put v out at n x → Put v out at m y → (n ≡ m) × (x ≡ y)
+put-unique v out at n m x y p q = (p .place ∙ sym (q .place), p .held ∙ sym (q .held))

@@ -1,0 +1,6 @@
+pub mod Refusal
+pub mod Sheet
+pub mod Field
+pub mod Told
+pub mod Put
+pub mod Send

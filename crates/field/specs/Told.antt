@@ -1,0 +1,11 @@
+-- What each answer says, in the paper's numbers.
+use Prim.Native.Nat.{ℕ}
+use Rattle.field.specs.declared.Field.{Field}
+use Rattle.field.specs.declared.Field.the-variants.{Got, Refused}
+use Rattle.field.specs.Refusal.{numberOf}
+use Rattle.field.specs.Sheet.{Out, got, refused}
+
+-- a value and the place after it, or a refusal's number
+unfoldable pub told : Field → Out ℕ
+told (Got v at) = got v at
+told (Refused e) = refused (numberOf e)

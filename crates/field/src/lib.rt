@@ -1,0 +1,155 @@
+// What every sheet is made of: the refusals, reading a field at a place, writing a field into a lent buffer.
+use number::Number;
+ghost use mathlib.Core.Path.{_≡_};
+ghost use Rattle.field.specs.Field.{number, exactly, tenancy, inside, rising, end};
+ghost use Rattle.field.specs.Put.{Put};
+ghost use Rattle.field.specs.Refusal.{numberOf};
+ghost use Rattle.field.specs.Told.{told};
+
+// Why a sheet or a call is refused.
+pub enum Refusal {
+    // The sheet ends inside a number or before one that is due.
+    Ends,
+    // A number is not in shortest form or is too large.
+    Malformed,
+    // The kind is not the one this call takes.
+    Kind,
+    // The unit number differs.
+    Unit,
+    // Not rented, or the tenancy differs.
+    Tenancy,
+    // A count or value is out of its range.
+    Range,
+    // A block with no copies.
+    NoCopies,
+    // A disk or block number is not above the one before it.
+    NotRising,
+    // Bytes follow the last field.
+    Extra,
+    // A read request before any settings.
+    NoSettings,
+    // The result is longer than the lent buffer.
+    NoRoom,
+    // Rent while rented.
+    Rented,
+    // Rent not above the last tenancy.
+    NotAbove,
+    // Return while not rented, or of another tenancy.
+    NotTenant,
+}
+
+// What reading a field gives: its value and the place after it, or the refusal.
+pub enum Field {
+    Got(u32, usize),
+    Refused(Refusal),
+}
+
+// What a writer of sheets answers: the length written, or the refusal.
+pub enum Written {
+    Length(usize),
+    Refused(Refusal),
+}
+
+// A number at a place.
+pub fn any(s: &[u8], at: usize) -> Field
+    ensures { λ r. ⌜ told r ≡ number (now (s .entry)) at ⌝ }
+{
+    if s.len() < at {
+        return Field::Refused(Refusal::Ends);
+    }
+    match number::read(&s[at..]) {
+        Number::Value(v, n) => Field::Got(v, at + n),
+        Number::Ends => Field::Refused(Refusal::Ends),
+        Number::Malformed => Field::Refused(Refusal::Malformed),
+    }
+}
+
+// A number that must be the given one, or is refused with the given refusal.
+pub fn exact(s: &[u8], at: usize, want: u32, refusal: Refusal) -> Field
+    ensures { λ r. ⌜ told r ≡ exactly want (numberOf refusal) (now (s .entry)) at ⌝ }
+{
+    match any(s, at) {
+        Field::Got(v, next) => {
+            if v == want {
+                Field::Got(v, next)
+            } else {
+                Field::Refused(refusal)
+            }
+        }
+        Field::Refused(e) => Field::Refused(e),
+    }
+}
+
+// A tenancy's number that must be the given one; where 0 is expected every number is refused.
+pub fn tenant(s: &[u8], at: usize, want: u32) -> Field
+    ensures { λ r. ⌜ told r ≡ tenancy want (now (s .entry)) at ⌝ }
+{
+    match any(s, at) {
+        Field::Got(v, next) => {
+            if v == want {
+                if 0 < v {
+                    return Field::Got(v, next);
+                }
+            }
+            Field::Refused(Refusal::Tenancy)
+        }
+        Field::Refused(e) => Field::Refused(e),
+    }
+}
+
+// A number within a range.
+pub fn ranged(s: &[u8], at: usize, low: u32, high: u32) -> Field
+    ensures { λ r. ⌜ told r ≡ inside low high (now (s .entry)) at ⌝ }
+{
+    match any(s, at) {
+        Field::Got(v, next) => {
+            if v < low {
+                return Field::Refused(Refusal::Range);
+            }
+            if high < v {
+                return Field::Refused(Refusal::Range);
+            }
+            Field::Got(v, next)
+        }
+        Field::Refused(e) => Field::Refused(e),
+    }
+}
+
+// A number up to the last of its range that is not below the first that rises.
+pub fn risen(s: &[u8], at: usize, floor: u32, high: u32) -> Field
+    ensures { λ r. ⌜ told r ≡ rising floor high (now (s .entry)) at ⌝ }
+{
+    match any(s, at) {
+        Field::Got(v, next) => {
+            if high < v {
+                return Field::Refused(Refusal::Range);
+            }
+            if v < floor {
+                return Field::Refused(Refusal::NotRising);
+            }
+            Field::Got(v, next)
+        }
+        Field::Refused(e) => Field::Refused(e),
+    }
+}
+
+// The end of the sheet.
+pub fn finish(s: &[u8], at: usize) -> Field
+    ensures { λ r. ⌜ told r ≡ end (now (s .entry)) at ⌝ }
+{
+    if at == s.len() {
+        Field::Got(0, at)
+    } else {
+        Field::Refused(Refusal::Extra)
+    }
+}
+
+// Puts a field at a place and answers the place after it; where it has no room, answers the same place and changes nothing.
+pub fn put(v: u32, out: &mut [u8], at: usize) -> usize
+    ensures { λ r. ⌜ Put v (now (out .entry)) at r (now (out .exit)) ⌝ }
+{
+    if out.len() < at {
+        return at;
+    }
+    at + number::write(v, &mut out[at..])
+}

@@ -1,0 +1,4 @@
+pub mod Has
+pub mod Member
+pub mod Lowest
+pub mod Count

@@ -1,0 +1,98 @@
+// One u64 is a set of disks: bit d stands for disk d. A number at 64 or above is no disk.
+ghost use mathlib.Core.Path.{_≡_};
+ghost use mathlib.Core.Bool.{not, _&&_, _||_};
+ghost use Prim.Native.Nat.{ℕ};
+ghost use lib.Dec.{eqb};
+ghost use Rattle.mask.specs.Has.{has};
+ghost use Rattle.mask.specs.Member.{Added, Single, Below};
+ghost use Rattle.mask.specs.Lowest.{Lowest};
+ghost use Rattle.mask.specs.Count.{members};
+
+// Whether disk d is in m.
+pub fn test(m: u64, d: usize) -> bool
+    ensures { λ r. ⌜ r ≡ has m d ⌝ }
+{
+    if d < 64 { (m >> d) & 1 != 0 } else { false }
+}
+
+// m with disk d put in.
+pub fn set(m: u64, d: usize) -> u64
+    ensures { λ r. ⌜ Added m d r ⌝ }
+{
+    if d < 64 { m | (1 << d) } else { m }
+}
+
+// m with disk d taken out.
+pub fn clear(m: u64, d: usize) -> u64
+    ensures { λ r. ⌜ ((e : ℕ) → has r e ≡ (not (eqb e d) && has m e)) ⌝ }
+{
+    if d < 64 { m & !(1 << d) } else { m }
+}
+
+// The disks that are in a and in b.
+pub fn both(a: u64, b: u64) -> u64
+    ensures { λ r. ⌜ ((e : ℕ) → has r e ≡ (has a e && has b e)) ⌝ }
+{
+    a & b
+}
+
+// The disks that are in a or in b.
+pub fn either(a: u64, b: u64) -> u64
+    ensures { λ r. ⌜ ((e : ℕ) → has r e ≡ (has a e || has b e)) ⌝ }
+{
+    a | b
+}
+
+// The disks of a that are not in b.
+pub fn without(a: u64, b: u64) -> u64
+    ensures { λ r. ⌜ ((e : ℕ) → has r e ≡ (has a e && not (has b e))) ⌝ }
+{
+    a & !b
+}
+
+// Disk d alone.
+pub fn one(d: usize) -> u64
+    ensures { λ r. ⌜ Single d r ⌝ }
+{
+    if d < 64 { 1 << d } else { 0 }
+}
+
+// The disks 0 to n - 1.
+pub fn below(n: usize) -> u64
+    ensures { λ r. ⌜ Below n r ⌝ }
+{
+    if n < 64 { (1 << n) - 1 } else { !0 }
+}
+
+// The lowest disk of m, or 64: a walk over the bit positions, by eights and then by ones.
+pub fn lowest(m: u64) -> usize
+    ensures { λ r. ⌜ Lowest m r ⌝ }
+{
+    if m == 0 {
+        return 64;
+    }
+    let mut rest = m;
+    let mut d: usize = 0;
+    while rest & 255 == 0 {
+        rest >>= 8;
+        d += 8;
+    }
+    while rest & 1 == 0 {
+        rest >>= 1;
+        d += 1;
+    }
+    d
+}
+
+// How many disks are in m: each turn takes the lowest of the rest out.
+pub fn count(m: u64) -> u32
+    ensures { λ r. ⌜ r ≡ members 64 m ⌝ }
+{
+    let mut rest = m;
+    let mut n: u32 = 0;
+    while rest != 0 {
+        rest &= rest - 1;
+        n += 1;
+    }
+    n
+}

@@ -1,0 +1,15 @@
+pub mod Bool
+pub mod Sum
+pub mod Capacity
+pub mod Duality
+pub mod Time
+pub mod Closed
+pub mod Order
+pub mod Plan
+pub mod Move
+pub mod Earliest
+pub mod Subsets
+pub mod Short
+pub mod Hall
+pub mod Existence
+pub mod Figures

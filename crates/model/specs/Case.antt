@@ -1,0 +1,59 @@
+-- One request on one table of disks, its schedules and their times.
+--     Case             disks, blocks, each disk's start and cost, and which disk holds a copy of which block
+--     base             the base: a disk starts at delay plus load
+--     Priced, Held     every cost is at least 1; every block has a copy on some disk
+--     Schedule         each block on one disk that holds a copy of it
+--     response         a schedule's time
+--     InTime, HasTime  the schedules of time at most t, and those of time t exactly
+--     capacityAt       each disk's capacity at a time
+use Prim.Native.Nat.{ℕ, _+_, _≤_, _<_}
+use mathlib.Core.Path.{_≡_}
+use mathlib.Core.Bool.{Bool, true}
+use Rattle.model.specs.Count.{latest}
+use Rattle.model.specs.Assignment.{reads, Valid}
+use Rattle.model.specs.Capacity.{endTime, capacity}
+
+-- the number of disks and of blocks; each disk's start (in the base: delay plus load) and cost; whether disk d holds a copy of block b
+pub record Case : Type 0 where
+  pub disks : ℕ
+  pub blocks : ℕ
+  pub start : ℕ → ℕ
+  pub cost : ℕ → ℕ
+  pub copy : ℕ → ℕ → Bool
+
+-- n disks with their costs, loads and delays, and q blocks with their copies
+unfoldable pub base : ℕ → ℕ → (ℕ → ℕ) → (ℕ → ℕ) → (ℕ → ℕ) → (ℕ → ℕ → Bool) → Case
+base n q cost load delay copy =
+    record { disks = n; blocks = q; start = λ d. delay d + load d; cost = cost; copy = copy }
+
+-- every disk's cost is at least 1
+unfoldable pub Priced : Case → Type 0
+Priced m = (d : ℕ) → d < m .disks → 0 < m .cost d
+
+-- every block has a copy on some disk
+unfoldable pub Held : Case → Type 0
+Held m = (b : ℕ) → b < m .blocks → (d : ℕ) × (d < m .disks) × (m .copy b d ≡ true)
+
+-- a schedule gives each block one disk that holds a copy of it
+unfoldable pub Schedule : Case → (ℕ → ℕ) → Type 0
+Schedule m a = Valid (m .disks) (m .blocks) (m .copy) a
+
+-- when disk d ends under the schedule a
+unfoldable pub endOf : Case → (ℕ → ℕ) → ℕ → ℕ
+endOf m a d = endTime (m .start d) (m .cost d) (reads (m .blocks) a d)
+
+-- a schedule's response time: the latest end over all disks
+unfoldable pub response : Case → (ℕ → ℕ) → ℕ
+response m a = latest (m .disks) (endOf m a)
+
+-- the schedules that are done by t
+unfoldable pub InTime : Case → ℕ → (ℕ → ℕ) → Type 0
+InTime m t a = Schedule m a × (response m a ≤ t)
+
+-- the schedules whose time is t
+unfoldable pub HasTime : Case → ℕ → (ℕ → ℕ) → Type 0
+HasTime m t a = Schedule m a × (response m a ≡ t)
+
+-- each disk's capacity at time t
+unfoldable pub capacityAt : Case → ℕ → ℕ → ℕ
+capacityAt m t d = capacity (m .start d) (m .cost d) t

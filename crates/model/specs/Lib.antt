@@ -1,0 +1,10 @@
+pub mod Count
+pub mod Assignment
+pub mod Capacity
+pub mod Case
+pub mod Shortfall
+pub mod Closed
+pub mod Time
+pub mod Order
+pub mod Plan
+pub mod Figures

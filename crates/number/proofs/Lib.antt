@@ -1,0 +1,6 @@
+pub mod Choice
+pub mod Part
+pub mod Decode
+pub mod Encode
+pub mod RoundTrip
+pub mod Unique

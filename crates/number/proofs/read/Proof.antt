@@ -1,0 +1,91 @@
+-- Each return is one law of `decode`, after what `groups` promises.
+use borrow.Author.Needs.{needs}
+use native.Mathlib.Omega.{arith}
+use mathlib.Core.Path.{_≡_, sym, ap, _∙_}
+use Rattle.number.specs.Told.{told}
+use Rattle.number.specs.Decode.{under}
+use Rattle.number.proofs.Decode.{decode-none, decode-one, decode-under, more-small}
+use borrow.Author.Needs.{needs}
+use Rattle.number.proofs.read.Statement.{statement}
+use Rattle.number.proofs.read.Tie as tie
+
+returns : tie.Need-returns
+unfolding told
+returns c = sym (decode-none _ (c .if1 .taken))
+
+shared-slice-read-b : tie.Need-shared-slice-read-b
+shared-slice-read-b c = search needs
+
+cast-b : tie.Need-cast-b
+cast-b c = omega (arith, c .shared-slice-known2 .given 0)
+
+returns-2 : tie.Need-returns-2
+unfolding told
+returns-2 c = sym (decode-one _ (omega arith) (c .if2 .taken))
+
+sub-groups : tie.Need-sub-groups
+sub-groups c = search needs
+
+part-groups-start : tie.Need-part-groups-start
+part-groups-start c = search needs
+
+part-groups-end : tie.Need-part-groups-end
+part-groups-end c = search needs
+
+groups-requires : tie.Need-groups-requires
+groups-requires c κs = search needs
+
+enum-known-v : tie.Need-enum-known-v
+enum-known-v c = search needs
+
+mul-t15 : tie.Need-mul-t15
+unfolding told
+mul-t15 c = omega (arith, more-small _ _ _ _ (omega arith) (sym (c .before .before .before .groups .ensures) ∙ ap told (c .before .v .given .1)))
+
+add-t16 : tie.Need-add-t16
+unfolding told
+add-t16 c = omega (arith, more-small _ _ _ _ (omega arith) (sym (c .before .before .before .groups .ensures) ∙ ap told (c .before .v .given .1)))
+
+add-t17 : tie.Need-add-t17
+unfolding told
+add-t17 c = omega (arith, more-small _ _ _ _ (omega arith) (sym (c .before .before .before .groups .ensures) ∙ ap told (c .before .v .given .1)))
+
+enum-told : tie.Need-enum-told
+enum-told c = search needs
+
+enum-told-2 : tie.Need-enum-told-2
+enum-told-2 c = search needs
+
+returns-3 : tie.Need-returns-3
+unfolding told under
+returns-3 c = sym (decode-under _ (omega arith) (omega arith) ∙ ap (under _) (sym (c .before .before .before .groups .ensures) ∙ ap told (c .before .v .given .1)))
+
+returns-4 : tie.Need-returns-4
+unfolding told under
+returns-4 c = sym (decode-under _ (omega arith) (omega arith) ∙ ap (under _) (sym (c .before .before .groups .ensures) ∙ ap told (c .enum-told .given .1)))
+
+returns-5 : tie.Need-returns-5
+unfolding told under
+returns-5 c = sym (decode-under _ (omega arith) (omega arith) ∙ ap (under _) (sym (c .before .before .groups .ensures) ∙ ap told (c .enum-told2 .given .1)))
+
+pub read-spec : {M : Type 1} → statement M
+read-spec =
+    tie.close
+    (tie.spec
+    returns
+    shared-slice-read-b
+    cast-b
+    returns-2
+    sub-groups
+    part-groups-start
+    part-groups-end
+    groups-requires
+    enum-known-v
+    mul-t15
+    add-t16
+    add-t17
+    enum-told
+    enum-told-2
+    returns-3
+    returns-4
+    returns-5)

@@ -1,0 +1,90 @@
+// One number of a sheet: read it, write it in its shortest form, find its width.
+ghost use mathlib.Core.Path.{_≡_};
+ghost use Prim.Native.Nat.{_≤_};
+ghost use lib.ListN.{length};
+ghost use Rattle.number.specs.Decode.{decode, more};
+ghost use Rattle.number.specs.Encode.{widthOf, Wrote};
+ghost use Rattle.number.specs.Told.{told};
+
+// What stands at the start of a list of bytes.
+pub enum Number {
+    // A value, and the bytes it used.
+    Value(u32, usize),
+    // The bytes end inside the number, or before it.
+    Ends,
+    // Not the shortest form, or too large.
+    Malformed,
+}
+
+// The groups after the first, where `left` more may follow the next one.
+fn groups(s: &[u8], left: u32) -> Number
+    requires { ⌜ left ≤ 3 ⌝ }
+    ensures { λ r. ⌜ told r ≡ more left (now (s .entry)) ⌝ }
+{
+    if s.len() == 0 {
+        return Number::Ends;
+    }
+    let b = s[0] as u32;
+    if b == 0 {
+        return Number::Malformed;
+    }
+    if left == 0 {
+        if b < 16 {
+            return Number::Value(b, 1);
+        }
+        return Number::Malformed;
+    }
+    if b < 128 {
+        return Number::Value(b, 1);
+    }
+    match groups(&s[1..], left - 1) {
+        Number::Value(v, n) => Number::Value(b % 128 + 128 * v, n + 1),
+        Number::Ends => Number::Ends,
+        Number::Malformed => Number::Malformed,
+    }
+}
+
+// The number at the start of a slice.
+pub fn read(s: &[u8]) -> Number
+    ensures { λ r. ⌜ told r ≡ decode (now (s .entry)) ⌝ }
+{
+    if s.len() == 0 {
+        return Number::Ends;
+    }
+    let b = s[0] as u32;
+    if b < 128 {
+        return Number::Value(b, 1);
+    }
+    match groups(&s[1..], 3) {
+        Number::Value(v, n) => Number::Value(b % 128 + 128 * v, n + 1),
+        Number::Ends => Number::Ends,
+        Number::Malformed => Number::Malformed,
+    }
+}
+
+// The bytes of the shortest form.
+pub fn width(v: u32) -> usize
+    ensures { λ r. ⌜ r ≡ widthOf v ⌝ }
+{
+    if v < 128 { 1 } else { 1 + width(v / 128) }
+}
+
+// Writes the shortest form at the start of a slice and answers its width; where it has no room, answers 0 and changes nothing.
+pub fn write(v: u32, out: &mut [u8]) -> usize
+    ensures { λ r. ⌜ Wrote v (now (out .entry)) r (now (out .exit)) ⌝ }
+{
+    if out.len() == 0 {
+        return 0;
+    }
+    if v < 128 {
+        out[0] = v as u8;
+        return 1;
+    }
+    // The rest goes first, so that a number with no room has changed nothing.
+    let n = write(v / 128, &mut out[1..]);
+    if n == 0 {
+        return 0;
+    }
+    out[0] = (v % 128 + 128) as u8;
+    n + 1
+}
