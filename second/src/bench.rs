@@ -1,0 +1,97 @@
+//! The bench program: one hire, one settings sheet, one read request, one line.
+
+use crate::number::Reader;
+use crate::refusal::{Refusal, RANGE};
+use crate::sheets::{read_plan, LONGEST_PLAN, LONGEST_REQUEST};
+use crate::unit::Unit;
+
+/// The line for an input, without its line feed.
+pub fn line(input: &[u8]) -> String {
+    match run(input) {
+        Ok(line) => line,
+        Err(Refusal(number)) => format!("refused {number}"),
+    }
+}
+
+fn run(input: &[u8]) -> Result<String, Refusal> {
+    let mut reader = Reader::new(input);
+    let number = reader.number()?;
+    let tenancy = reader.number()?;
+    let mut unit = Unit::new(number);
+    unit.rent(tenancy)?;
+    unit.settings(lent_sheet(&mut reader)?)?;
+    let request = lent_sheet(&mut reader)?;
+    reader.finish()?;
+    let sheet = unit.request(request, LONGEST_PLAN)?;
+    show(&sheet, number, tenancy)
+}
+
+/// A length, then so many bytes.
+fn lent_sheet<'a>(reader: &mut Reader<'a>) -> Result<&'a [u8], Refusal> {
+    let length = reader.number()?;
+    if length > LONGEST_REQUEST {
+        return Err(RANGE);
+    }
+    reader.take(length as usize)
+}
+
+/// The fields parted by single spaces.
+fn show(sheet: &[u8], unit: u32, tenancy: u32) -> Result<String, Refusal> {
+    let plan = read_plan(sheet, unit, tenancy)?;
+    let mut words = vec!["plan".to_string()];
+    words
+        .extend([unit, tenancy, plan.disks.len() as u32, plan.time].map(|value| value.to_string()));
+    words.push("|".to_string());
+    words.extend(plan.disks.iter().map(|disk| disk.to_string()));
+    words.push("|".to_string());
+    words.extend(plan.short.iter().map(|block| block.to_string()));
+    Ok(words.join(" "))
+}
+
+#[cfg(test)]
+mod tests {
+    use super::*;
+    use crate::hex;
+    use crate::number::shortest;
+
+    const SAMPLE: &str =
+        "07ac020e0107ac0203040001030200 0a0000 110207ac02040200010200010200010201 02";
+
+    fn sample() -> Vec<u8> {
+        hex::read(&SAMPLE.replace(' ', "")).unwrap()
+    }
+
+    #[test]
+    fn the_sample() {
+        assert_eq!(line(&sample()), "plan 7 300 4 9 | 0 0 1 1 | 0 1 2 3");
+    }
+
+    #[test]
+    fn no_blocks() {
+        let mut input = sample()[..18].to_vec();
+        input.extend([5, 2, 7, 0xAC, 2, 0]);
+        assert_eq!(line(&input), "plan 7 300 0 0 | |");
+    }
+
+    #[test]
+    fn the_order_of_its_refusals() {
+        assert_eq!(line(&[]), "refused 1");
+        assert_eq!(line(&[7, 0]), "refused 13");
+        assert_eq!(line(&[7, 0x80, 0]), "refused 2");
+        assert_eq!(line(&[7, 1]), "refused 1");
+        assert_eq!(line(&[&[7, 1], &shortest(9_230)[..]].concat()), "refused 6");
+        assert_eq!(line(&[&[7, 1], &shortest(9_229)[..]].concat()), "refused 1");
+        assert_eq!(line(&[7, 1, 2, 2, 7]), "refused 3");
+        assert_eq!(line(&[7, 1, 2, 1, 8]), "refused 4");
+        assert_eq!(line(&[7, 1, 0]), "refused 1");
+        let set = [7, 1, 7, 1, 7, 1, 1, 4, 0, 1];
+        assert_eq!(line(&set), "refused 1");
+        assert_eq!(line(&[&set[..], &[1, 9, 0]].concat()), "refused 9");
+        assert_eq!(line(&[&set[..], &[1, 9]].concat()), "refused 3");
+        assert_eq!(
+            line(&[&set[..], &[4, 2, 7, 1, 0]].concat()),
+            "plan 7 1 0 0 | |"
+        );
+        assert_eq!(line(&[&set[..], &[4, 2, 7, 2, 0]].concat()), "refused 5");
+    }
+}

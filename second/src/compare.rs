@@ -1,0 +1,286 @@
+//! Runs another program on generated inputs and holds its output against ours, line by line.
+
+use std::io::{Read, Write};
+use std::process::{Command, Stdio};
+
+use crate::hex;
+use crate::inputs::{bench as bench_inputs, desk as desk_inputs, shelf as shelf_inputs};
+use crate::{bench, desk, shelf};
+
+/// The other program and its arguments.
+pub struct Other<'a> {
+    pub words: &'a [String],
+}
+
+/// Where two outputs part: the line's number from 1, ours, and the other's.
+struct Difference {
+    line: usize,
+    ours: String,
+    other: String,
+}
+
+impl Other<'_> {
+    /// What the program prints on an input.
+    fn output(&self, input: &[u8]) -> Result<Vec<u8>, String> {
+        let (program, arguments) = self.words.split_first().ok_or("no program is named")?;
+        let mut command = Command::new(program);
+        command
+            .args(arguments)
+            .stdin(Stdio::piped())
+            .stdout(Stdio::piped());
+        let mut child = command
+            .spawn()
+            .map_err(|error| format!("{program}: {error}"))?;
+        let mut stdin = child.stdin.take().ok_or("no standard input")?;
+        let mut stdout = child.stdout.take().ok_or("no standard output")?;
+        let mut output = Vec::new();
+        std::thread::scope(|scope| {
+            if input.len() <= 32_768 {
+                let _ = stdin.write_all(input);
+                drop(stdin);
+            } else {
+                scope.spawn(move || stdin.write_all(input));
+            }
+            stdout.read_to_end(&mut output)
+        })
+        .map_err(|error| error.to_string())?;
+        let status = child.wait().map_err(|error| error.to_string())?;
+        if status.code().is_none() {
+            output.extend(format!("ended by a signal: {status}\n").bytes());
+        }
+        Ok(output)
+    }
+}
+
+/// The first line that differs; a line feed that is missing counts.
+fn difference(ours: &[u8], other: &[u8]) -> Option<Difference> {
+    if ours == other {
+        return None;
+    }
+    let mut pair = [ours, other].map(|output| output.split_inclusive(|&byte| byte == b'\n'));
+    for line in 1.. {
+        let [ours, other] = [pair[0].next(), pair[1].next()];
+        if ours != other {
+            return Some(Difference {
+                line,
+                ours: show(ours),
+                other: show(other),
+            });
+        }
+    }
+    None
+}
+
+fn show(line: Option<&[u8]>) -> String {
+    match line {
+        None => "(nothing)".to_string(),
+        Some(line) => match line.strip_suffix(b"\n") {
+            Some(line) => String::from_utf8_lossy(line).to_string(),
+            None => format!("{} (no line feed)", String::from_utf8_lossy(line)),
+        },
+    }
+}
+
+fn report(what: &str, found: &Difference, input: &str) -> String {
+    let Difference { line, ours, other } = found;
+    format!("{what} differs at line {line}\nours:  {ours}\nother: {other}\ninput: {input}")
+}
+
+/// One process for each input.
+pub fn bench(other: &Other, count: u64, seed: u64) -> Result<String, String> {
+    let systematic = bench_inputs::systematic();
+    for index in 0..count {
+        let input = bench_input(&systematic, seed, index);
+        let ours = format!("{}\n", bench::line(&input));
+        if let Some(found) = difference(ours.as_bytes(), &other.output(&input)?) {
+            return Err(report(
+                &format!("bench input {index} of seed {seed}"),
+                &found,
+                &hex::word(&input),
+            ));
+        }
+    }
+    Ok(format!("bench: {count} inputs the same"))
+}
+
+/// The input of an index: the systematic ones come first.
+pub fn bench_input(systematic: &[Vec<u8>], seed: u64, index: u64) -> Vec<u8> {
+    match systematic.get(index as usize) {
+        Some(input) => input.clone(),
+        None => bench_inputs::input(seed, index),
+    }
+}
+
+/// One process for each stream; a call counts as an input.
+pub fn shelf(other: &Other, count: u64, seed: u64) -> Result<String, String> {
+    let systematic = shelf_inputs::systematic();
+    let (mut calls, mut streams) = (0, 0);
+    while calls < count {
+        let pieces = shelf_stream(&systematic, seed, streams);
+        let input = pieces.concat();
+        if let Some(found) = difference(&shelf::lines(&input), &other.output(&input)?) {
+            let short = shrink(other, pieces)?;
+            let first = report(
+                &format!("shelf stream {streams} of seed {seed}"),
+                &found,
+                "below",
+            );
+            let ours = String::from_utf8_lossy(&shelf::lines(&short)).to_string();
+            let theirs = String::from_utf8_lossy(&other.output(&short)?).to_string();
+            return Err(format!(
+                "{first}\nshortest stream found: {}\nours:\n{ours}other:\n{theirs}",
+                hex::word(&short)
+            ));
+        }
+        streams += 1;
+        calls += pieces.len().saturating_sub(1).max(1) as u64;
+    }
+    Ok(format!(
+        "shelf: {calls} inputs the same (calls, in {streams} streams)"
+    ))
+}
+
+/// The stream of an index: the systematic ones come first.
+pub fn shelf_stream(
+    systematic: &[shelf_inputs::Stream],
+    seed: u64,
+    index: u64,
+) -> shelf_inputs::Stream {
+    match systematic.get(index as usize) {
+        Some(stream) => stream.clone(),
+        None => shelf_inputs::stream(seed, index),
+    }
+}
+
+/// Leaves out calls for as long as the outputs still differ.
+fn shrink(other: &Other, pieces: shelf_inputs::Stream) -> Result<Vec<u8>, String> {
+    let mut kept = pieces;
+    let mut step = kept.len() / 2;
+    while step > 0 {
+        let mut at = 1;
+        while at < kept.len() {
+            let mut fewer = kept.clone();
+            fewer.drain(at..kept.len().min(at + step));
+            let input = fewer.concat();
+            if difference(&shelf::lines(&input), &other.output(&input)?).is_some() {
+                kept = fewer;
+            } else {
+                at += step;
+            }
+        }
+        step /= 2;
+    }
+    Ok(kept.concat())
+}
+
+/// Many lines for each process.
+pub fn desk(other: &Other, count: u64, seed: u64) -> Result<String, String> {
+    let mut from = 0;
+    while from < count {
+        let to = count.min(from + 1_000);
+        let lines: Vec<String> = (from..to)
+            .map(|index| desk_inputs::line(seed, index))
+            .collect();
+        let input = lines.join("\n") + "\n";
+        let ours: String = lines.iter().map(|line| desk::answer(line) + "\n").collect();
+        if let Some(found) = difference(ours.as_bytes(), &other.output(input.as_bytes())?) {
+            let line = lines.get(found.line - 1).map_or("(none)", |line| line);
+            return Err(report(
+                &format!("desk from line {from} of seed {seed}"),
+                &found,
+                line,
+            ));
+        }
+        from = to;
+    }
+    Ok(format!("desk: {count} inputs the same"))
+}
+
+#[cfg(test)]
+mod tests {
+    use super::*;
+
+    #[test]
+    fn where_outputs_part() {
+        assert!(difference(b"a\nb\n", b"a\nb\n").is_none());
+        assert_eq!(difference(b"a\nb\n", b"a\nc\n").unwrap().line, 2);
+        assert_eq!(difference(b"a\n", b"a").unwrap().other, "a (no line feed)");
+        assert_eq!(difference(b"a\n", b"a\nb\n").unwrap().ours, "(nothing)");
+    }
+
+    #[test]
+    fn the_inputs_reach_every_outcome() {
+        let systematic = bench_inputs::systematic();
+        let lines: Vec<String> = (0..9_000)
+            .map(|index| bench::line(&bench_input(&systematic, 1, index)))
+            .collect();
+        for number in [1, 2, 3, 4, 5, 6, 7, 8, 9, 13] {
+            let refused = format!("refused {number}");
+            assert!(
+                lines.iter().filter(|line| **line == refused).count() > 30,
+                "{refused}"
+            );
+        }
+        assert!(lines.iter().filter(|line| line.starts_with("plan")).count() > 3_000);
+    }
+
+    #[test]
+    fn the_streams_reach_every_outcome() {
+        let systematic = shelf_inputs::systematic();
+        let streams = (0..1_500).map(|index| shelf_stream(&systematic, 1, index).concat());
+        let text: String = streams
+            .map(|stream| String::from_utf8(shelf::lines(&stream)).unwrap())
+            .collect();
+        let count = |wanted: &str| text.lines().filter(|line| line.starts_with(wanted)).count();
+        for line in [
+            "rented",
+            "set",
+            "plan",
+            "returned",
+            "stopped 1",
+            "stopped 2",
+            "stopped 3",
+            "stopped 6",
+        ] {
+            assert!(count(line) > 20, "{line}");
+        }
+        for number in 1..=14 {
+            let refused = format!("refused {number}");
+            assert!(
+                text.lines().filter(|line| *line == refused).count() > 20,
+                "{refused}"
+            );
+        }
+    }
+
+    #[test]
+    fn the_desk_lines_reach_every_outcome() {
+        let answers: Vec<String> = (0..6_000)
+            .map(|index| desk::answer(&desk_inputs::line(1, index)))
+            .collect();
+        for start in [
+            "wrote",
+            "plan",
+            "refused 1 ",
+            "refused 2",
+            "refused 3",
+            "refused 4",
+            "refused 5",
+            "refused 6",
+            "refused 7",
+            "refused 8",
+            "refused 9",
+            "refused 11",
+        ] {
+            assert!(
+                answers
+                    .iter()
+                    .filter(|answer| answer.starts_with(start))
+                    .count()
+                    > 5,
+                "{start}"
+            );
+        }
+        assert!(!answers.iter().any(|answer| answer.starts_with("not")));
+    }
+}

@@ -1,0 +1,183 @@
+//! The desk end in text, to be held against the exported functions: one line in, one line out.
+
+use std::io::{BufRead, Write};
+
+use crate::hex;
+use crate::model::Disk;
+use crate::refusal::{Refusal, NO_ROOM, RANGE};
+use crate::sheets::{read_plan, write_request, write_settings};
+
+/// What every byte of a lent buffer is before the call.
+const FILL: u8 = 0xA5;
+
+pub fn run(input: &mut impl BufRead, output: &mut impl Write) {
+    for line in input.lines() {
+        let Ok(line) = line else { break };
+        if writeln!(output, "{}", answer(&line)).is_err() {
+            break;
+        }
+    }
+    let _ = output.flush();
+}
+
+/// The answer to one line.
+pub fn answer(line: &str) -> String {
+    let words: Vec<&str> = line.split(' ').collect();
+    let found = match words[0] {
+        "settings" => settings(&words[1..]),
+        "request" => request(&words[1..]),
+        "plan" => plan(&words[1..]),
+        _ => None,
+    };
+    found.unwrap_or_else(|| "not a line of the desk".to_string())
+}
+
+fn settings(words: &[&str]) -> Option<String> {
+    let &[room, unit, tenancy, costs, loads, delays] = words else {
+        return None;
+    };
+    let room = room.parse().ok()?;
+    let (unit, tenancy) = (unit.parse().ok()?, tenancy.parse().ok()?);
+    let lists = [hex::read(costs)?, hex::read(loads)?, hex::read(delays)?];
+    let sheet = rows(&lists).and_then(|disks| write_settings(unit, tenancy, &disks, room));
+    Some(wrote(sheet, room))
+}
+
+fn request(words: &[&str]) -> Option<String> {
+    let &[room, unit, tenancy, disks, copies] = words else {
+        return None;
+    };
+    let room = room.parse().ok()?;
+    let (unit, tenancy, disks) = (
+        unit.parse().ok()?,
+        tenancy.parse().ok()?,
+        disks.parse().ok()?,
+    );
+    let copies = masks(&hex::read(copies)?);
+    let sheet = copies.and_then(|copies| write_request(unit, tenancy, disks, &copies, room));
+    Some(wrote(sheet, room))
+}
+
+fn plan(words: &[&str]) -> Option<String> {
+    let &[unit, tenancy, disk_room, set_room, sheet] = words else {
+        return None;
+    };
+    let (unit, tenancy) = (unit.parse().ok()?, tenancy.parse().ok()?);
+    let mut disks: Vec<u8> = vec![FILL; disk_room.parse().ok()?];
+    let mut set: Vec<u8> = vec![FILL; set_room.parse().ok()?];
+    let head = match read_into(&hex::read(sheet)?, unit, tenancy, &mut disks, &mut set) {
+        Ok((blocks, time, size)) => format!("plan {blocks} {time} {size}"),
+        Err(Refusal(number)) => format!("refused {number}"),
+    };
+    Some(format!("{head} {} {}", hex::word(&disks), hex::word(&set)))
+}
+
+/// The plan reader over lent lists of bytes; an odd last byte of the second is not used.
+fn read_into(
+    sheet: &[u8],
+    unit: u32,
+    tenancy: u32,
+    disks: &mut [u8],
+    set: &mut [u8],
+) -> Result<(usize, u32, usize), Refusal> {
+    let plan = read_plan(sheet, unit, tenancy)?;
+    if plan.disks.len() > disks.len() || plan.short.len() > set.len() / 2 {
+        return Err(NO_ROOM);
+    }
+    disks[..plan.disks.len()].copy_from_slice(&plan.disks);
+    for (place, block) in set.chunks_exact_mut(2).zip(&plan.short) {
+        place.copy_from_slice(&block.to_le_bytes());
+    }
+    Ok((plan.disks.len(), plan.time, plan.short.len()))
+}
+
+/// Three lists of 32-bit numbers, lowest byte first; unequal or broken lists get 6.
+fn rows(lists: &[Vec<u8>; 3]) -> Result<Vec<Disk>, Refusal> {
+    let [costs, loads, delays] = lists;
+    if costs.len() != loads.len() || costs.len() != delays.len() || !costs.len().is_multiple_of(4) {
+        return Err(RANGE);
+    }
+    let read = |list: &[u8], at: usize| {
+        u32::from_le_bytes([list[at], list[at + 1], list[at + 2], list[at + 3]])
+    };
+    let row = |at| Disk {
+        cost: read(costs, at),
+        load: read(loads, at),
+        delay: read(delays, at),
+    };
+    Ok((0..costs.len()).step_by(4).map(row).collect())
+}
+
+/// A list of 64-bit numbers, lowest byte first; a broken list gets 6.
+fn masks(list: &[u8]) -> Result<Vec<u64>, Refusal> {
+    if !list.len().is_multiple_of(8) {
+        return Err(RANGE);
+    }
+    let read = |bytes: &[u8]| {
+        bytes
+            .iter()
+            .rev()
+            .fold(0, |value, &byte| value << 8 | u64::from(byte))
+    };
+    Ok(list.chunks(8).map(read).collect())
+}
+
+/// The answer of a writer and the whole lent buffer after the call.
+fn wrote(sheet: Result<Vec<u8>, Refusal>, room: usize) -> String {
+    let mut buffer = vec![FILL; room];
+    let head = match sheet {
+        Ok(sheet) => {
+            buffer[..sheet.len()].copy_from_slice(&sheet);
+            format!("wrote {}", sheet.len())
+        }
+        Err(Refusal(number)) => format!("refused {number}"),
+    };
+    format!("{head} {}", hex::word(&buffer))
+}
+
+#[cfg(test)]
+mod tests {
+    use super::*;
+
+    #[test]
+    fn writers() {
+        assert_eq!(
+            answer("settings 8 7 5 04000000 02000000 01000000"),
+            "wrote 7 01070501040201a5"
+        );
+        assert_eq!(
+            answer("settings 6 7 5 04000000 02000000 01000000"),
+            "refused 11 a5a5a5a5a5a5"
+        );
+        assert_eq!(
+            answer("settings 1 7 5 040000 020000 010000"),
+            "refused 6 a5"
+        );
+        assert_eq!(answer("settings 0 7 5 - - -"), "refused 6 -");
+        assert_eq!(
+            answer("request 7 7 5 2 0300000000000000"),
+            "wrote 7 02070501020001"
+        );
+        assert_eq!(answer("request 4 7 5 2 -"), "wrote 4 02070500");
+        assert_eq!(answer("request 0 7 5 2 0000000000000000"), "refused 7 -");
+        assert_eq!(answer("request 0 7 5 2 03"), "refused 6 -");
+    }
+
+    #[test]
+    fn the_plan_reader() {
+        assert_eq!(
+            answer("plan 7 5 2 3 0307050109020100"),
+            "plan 1 9 1 02a5 0000a5"
+        );
+        assert_eq!(
+            answer("plan 7 5 2 1 0307050109020100"),
+            "refused 11 a5a5 a5"
+        );
+        assert_eq!(
+            answer("plan 7 5 0 9 0307050109020100"),
+            "refused 11 - a5a5a5a5a5a5a5a5a5"
+        );
+        assert_eq!(answer("plan 7 0 0 0 030700"), "refused 5 - -");
+        assert_eq!(answer("plan 7 5 0 0 030705000000"), "plan 0 0 0 - -");
+    }
+}

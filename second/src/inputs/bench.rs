@@ -1,0 +1,149 @@
+//! Inputs of the bench program.
+
+use crate::inputs::damage::{self, FAULTS};
+use crate::inputs::fields::{bytes, request, settings, with_length, Field, Role};
+use crate::inputs::whole::{self, Case};
+use crate::model::Disk;
+use crate::random::Random;
+
+/// The two sheets of an input, and the unit and tenancy before them.
+#[derive(Clone)]
+struct Parts {
+    head: Vec<Field>,
+    settings: Vec<Field>,
+    request: Vec<Field>,
+}
+
+impl Parts {
+    fn new(unit: u32, tenancy: u32, case: &Case) -> Self {
+        Parts {
+            head: vec![
+                Field::new(Role::Unit, unit),
+                Field::new(Role::Tenancy, tenancy),
+            ],
+            settings: settings(unit, tenancy, &case.disks),
+            request: request(unit, tenancy, &case.copies),
+        }
+    }
+
+    /// All fields in a row, the lengths as the sheets now are.
+    fn fields(&self) -> Vec<Field> {
+        [
+            self.head.clone(),
+            with_length(&self.settings),
+            with_length(&self.request),
+        ]
+        .concat()
+    }
+
+    fn sheet(&mut self, which: usize) -> &mut Vec<Field> {
+        if which == 0 {
+            &mut self.settings
+        } else {
+            &mut self.request
+        }
+    }
+}
+
+/// The document's sample and a wider input of the same kind.
+fn examples() -> [Parts; 2] {
+    let row = |cost, load, delay| Disk { cost, load, delay };
+    let disks = vec![row(4, 0, 1), row(3, 2, 0), row(10, 0, 0)];
+    let wide = vec![row(300, 70_000, 1_000), row(20_000, 5, 0), row(1, 0, 400)];
+    [
+        Parts::new(
+            7,
+            300,
+            &Case {
+                disks,
+                copies: vec![3, 3, 3, 6],
+            },
+        ),
+        Parts::new(
+            70_000,
+            4_000_000_000,
+            &Case {
+                disks: wide,
+                copies: vec![7, 2, 5],
+            },
+        ),
+    ]
+}
+
+/// Every truncation, and every fault at every field, of the examples.
+pub fn systematic() -> Vec<Vec<u8>> {
+    let mut inputs = Vec::new();
+    for parts in examples() {
+        let whole = bytes(&parts.fields());
+        inputs.extend((0..=whole.len()).map(|length| whole[..length].to_vec()));
+        inputs.extend([0, 1, 128].map(|byte| [&whole[..], &[byte]].concat()));
+        inputs.extend(faults(&parts));
+    }
+    inputs
+}
+
+/// Every fault at every field: with the sheet's length set right, and with it as it was.
+fn faults(parts: &Parts) -> Vec<Vec<u8>> {
+    let mut inputs = Vec::new();
+    for fault in FAULTS {
+        let all = parts.fields();
+        for place in 0..all.len() {
+            let mut damaged = all.clone();
+            damage::put(&mut damaged, place, fault);
+            inputs.push(bytes(&damaged));
+        }
+        for which in 0..2 {
+            for place in 0..parts.clone().sheet(which).len() {
+                let mut damaged = parts.clone();
+                damage::put(damaged.sheet(which), place, fault);
+                inputs.push(bytes(&damaged.fields()));
+            }
+        }
+    }
+    inputs
+}
+
+/// The input of a seed and an index: whole, damaged once or twice, or made of random bytes.
+pub fn input(seed: u64, index: u64) -> Vec<u8> {
+    let mut random = Random::of(seed, index);
+    match random.within(1, 20) {
+        1..=9 => bytes(&parts(&mut random, whole::any).fields()),
+        10..=12 => damaged(&mut random, 1),
+        13..=17 => damaged(&mut random, 2),
+        18..=19 => {
+            let mut input = bytes(&parts(&mut random, whole::small).fields());
+            for _ in 0..random.within(1, 2) {
+                damage::any_bytes(&mut random, &mut input);
+            }
+            input
+        }
+        _ => (0..random.within(0, 30))
+            .map(|_| random.within(0, 9) as u8)
+            .collect(),
+    }
+}
+
+fn parts(random: &mut Random, family: fn(&mut Random) -> Case) -> Parts {
+    let case = family(random);
+    Parts::new(random.number(), random.number().max(1), &case)
+}
+
+/// So many faults, in the sheets or in the row of all fields.
+fn damaged(random: &mut Random, faults: u32) -> Vec<u8> {
+    let case = if random.once_in(8) {
+        whole::medium(random)
+    } else {
+        whole::small(random)
+    };
+    let mut parts = Parts::new(random.number(), random.number(), &case);
+    let outer = random.within(0, faults);
+    for _ in outer..faults {
+        let which = random.index(2);
+        damage::any(random, parts.sheet(which));
+    }
+    let mut fields = parts.fields();
+    for _ in 0..outer {
+        damage::any(random, &mut fields);
+    }
+    bytes(&fields)
+}

@@ -1,0 +1,106 @@
+//! Sheets as lists of fields, so that each field can be damaged.
+
+use crate::model::{disks_of, Disk, Plan};
+use crate::number::shortest;
+
+/// What a field is, which decides its range.
+#[derive(Clone, Copy, Debug, PartialEq, Eq)]
+pub enum Role {
+    Kind,
+    Unit,
+    Tenancy,
+    DiskCount,
+    Cost,
+    Load,
+    Delay,
+    BlockCount,
+    CopyCount,
+    Disk,
+    Time,
+    SetSize,
+    Block,
+    Length,
+    Room,
+}
+
+#[derive(Clone, Debug)]
+pub struct Field {
+    pub role: Role,
+    pub value: u32,
+    pub bytes: Vec<u8>,
+}
+
+impl Field {
+    pub fn new(role: Role, value: u32) -> Self {
+        Field {
+            role,
+            value,
+            bytes: shortest(value),
+        }
+    }
+}
+
+pub fn bytes(fields: &[Field]) -> Vec<u8> {
+    fields
+        .iter()
+        .flat_map(|field| field.bytes.clone())
+        .collect()
+}
+
+fn head(kind: u32, unit: u32, tenancy: u32) -> Vec<Field> {
+    vec![
+        Field::new(Role::Kind, kind),
+        Field::new(Role::Unit, unit),
+        Field::new(Role::Tenancy, tenancy),
+    ]
+}
+
+pub fn settings(unit: u32, tenancy: u32, disks: &[Disk]) -> Vec<Field> {
+    let mut fields = head(1, unit, tenancy);
+    fields.push(Field::new(Role::DiskCount, disks.len() as u32));
+    for disk in disks {
+        fields.push(Field::new(Role::Cost, disk.cost));
+        fields.push(Field::new(Role::Load, disk.load));
+        fields.push(Field::new(Role::Delay, disk.delay));
+    }
+    fields
+}
+
+pub fn request(unit: u32, tenancy: u32, copies: &[u64]) -> Vec<Field> {
+    let mut fields = head(2, unit, tenancy);
+    fields.push(Field::new(Role::BlockCount, copies.len() as u32));
+    for &block in copies {
+        fields.push(Field::new(Role::CopyCount, block.count_ones()));
+        fields.extend(
+            disks_of(block)
+                .iter()
+                .map(|&disk| Field::new(Role::Disk, disk as u32)),
+        );
+    }
+    fields
+}
+
+pub fn plan(unit: u32, tenancy: u32, plan: &Plan) -> Vec<Field> {
+    let mut fields = head(3, unit, tenancy);
+    fields.push(Field::new(Role::BlockCount, plan.disks.len() as u32));
+    fields.push(Field::new(Role::Time, plan.time));
+    fields.extend(
+        plan.disks
+            .iter()
+            .map(|&disk| Field::new(Role::Disk, u32::from(disk))),
+    );
+    fields.push(Field::new(Role::SetSize, plan.short.len() as u32));
+    fields.extend(
+        plan.short
+            .iter()
+            .map(|&block| Field::new(Role::Block, u32::from(block))),
+    );
+    fields
+}
+
+/// A sheet with its length before it.
+pub fn with_length(sheet: &[Field]) -> Vec<Field> {
+    let mut fields = vec![Field::new(Role::Length, bytes(sheet).len() as u32)];
+    fields.extend_from_slice(sheet);
+    fields
+}

@@ -1,0 +1,301 @@
+//! Streams of calls for the shelf program.
+
+use crate::inputs::damage::{self, Fault, FAULTS};
+use crate::inputs::fields::{bytes, request, settings, with_length, Field, Role};
+use crate::inputs::whole::{self, Case};
+use crate::model::Disk;
+use crate::number::shortest;
+use crate::random::Random;
+use crate::shelf::MOST_ROOM;
+use crate::unit::Unit;
+
+/// A stream in pieces: the unit's number, then a piece for each call.
+pub type Stream = Vec<Vec<u8>>;
+
+/// A hire that is made up as it goes, with all that went over the desk before.
+struct Hire {
+    number: u32,
+    unit: Unit,
+    last: u32,
+    case: Case,
+    settings_sent: Vec<Vec<u8>>,
+    requests_sent: Vec<Vec<u8>>,
+}
+
+/// The stream of a seed and an index.
+pub fn stream(seed: u64, index: u64) -> Stream {
+    let mut random = Random::of(seed, index);
+    let number = random.number();
+    let mut hire = Hire {
+        number,
+        unit: Unit::new(number),
+        last: 0,
+        case: whole::small(&mut random),
+        settings_sent: Vec::new(),
+        requests_sent: Vec::new(),
+    };
+    let mut pieces = vec![shortest(number)];
+    let most = *random.pick(&[10, 40, 300]);
+    for _ in 0..random.within(1, most) {
+        pieces.push(hire.call(&mut random));
+    }
+    if random.once_in(2) {
+        pieces.push(hire.damaged_call(&mut random));
+    }
+    pieces
+}
+
+impl Hire {
+    /// A call that mostly fits the state the unit is in.
+    fn call(&mut self, random: &mut Random) -> Vec<u8> {
+        let rented = self.unit.tenancy() != 0;
+        let odd = random.once_in(4);
+        match (rented, odd) {
+            (false, false) => self.rent(random),
+            (true, false) if self.unit.disks() == 0 => self.settings(random),
+            (true, false) => match random.within(1, 12) {
+                1 => self.give_back(random),
+                2 => self.settings(random),
+                _ => self.request(random),
+            },
+            (_, true) => match random.within(1, 6) {
+                1 => self.rent(random),
+                2 => self.give_back(random),
+                3 => self.settings(random),
+                4 => self.request(random),
+                5 => self.old_settings(random),
+                _ => self.old_request(random),
+            },
+        }
+    }
+
+    fn rent(&mut self, random: &mut Random) -> Vec<u8> {
+        let tenancy = match random.within(1, 40) {
+            1 => 0,
+            2..=4 => self.last,
+            5 => self.last.saturating_sub(1),
+            6 => random.number() / 2,
+            7 if random.once_in(20) => u32::MAX,
+            8 => self.last.saturating_add(random.within(1, 100_000)),
+            _ => self.last.saturating_add(random.within(1, 3)),
+        };
+        if self.unit.rent(tenancy).is_ok() {
+            self.last = tenancy;
+        }
+        [shortest(1), shortest(tenancy)].concat()
+    }
+
+    fn give_back(&mut self, random: &mut Random) -> Vec<u8> {
+        let tenancy = match random.within(1, 10) {
+            1 => 0,
+            2 => self.last.wrapping_add(1),
+            3 => self.last.wrapping_sub(1),
+            _ => self.last,
+        };
+        let _ = self.unit.give_back(tenancy);
+        [shortest(4), shortest(tenancy)].concat()
+    }
+
+    fn settings(&mut self, random: &mut Random) -> Vec<u8> {
+        let case = whole::any(random);
+        let mut fields = settings(self.number, self.last, &case.disks);
+        maybe_damage(random, &mut fields);
+        let sheet = bytes(&fields);
+        self.case = case;
+        self.send_settings(sheet)
+    }
+
+    fn old_settings(&mut self, random: &mut Random) -> Vec<u8> {
+        if self.settings_sent.is_empty() {
+            return self.settings(random);
+        }
+        let sheet = random.pick(&self.settings_sent).clone();
+        self.send_settings(sheet)
+    }
+
+    fn send_settings(&mut self, sheet: Vec<u8>) -> Vec<u8> {
+        let _ = self.unit.settings(&sheet);
+        let call = [shortest(2), shortest(sheet.len() as u32), sheet.clone()].concat();
+        remember(&mut self.settings_sent, sheet);
+        call
+    }
+
+    /// A request for the table last sent, or for another, which may be wider.
+    fn request(&mut self, random: &mut Random) -> Vec<u8> {
+        let copies = match random.within(1, 8) {
+            1 => self.case.copies.clone(),
+            2 => whole::any(random).copies,
+            _ => fitting_copies(random, self.unit.disks().max(1)),
+        };
+        let mut fields = request(self.number, self.last, &copies);
+        maybe_damage(random, &mut fields);
+        let sheet = bytes(&fields);
+        self.send_request(random, sheet)
+    }
+
+    fn old_request(&mut self, random: &mut Random) -> Vec<u8> {
+        if self.requests_sent.is_empty() {
+            return self.request(random);
+        }
+        let sheet = random.pick(&self.requests_sent).clone();
+        self.send_request(random, sheet)
+    }
+
+    fn send_request(&mut self, random: &mut Random, sheet: Vec<u8>) -> Vec<u8> {
+        let room = match random.within(1, 4) {
+            1 => self.exact_room(&sheet),
+            2 => self.exact_room(&sheet).saturating_sub(1),
+            3 => random.within(0, 40),
+            _ => MOST_ROOM,
+        };
+        let call = [
+            shortest(3),
+            shortest(room),
+            shortest(sheet.len() as u32),
+            sheet.clone(),
+        ]
+        .concat();
+        remember(&mut self.requests_sent, sheet);
+        call
+    }
+
+    /// The length of the plan sheet, if there is to be one.
+    fn exact_room(&self, sheet: &[u8]) -> u32 {
+        let plan = self.unit.request(sheet, MOST_ROOM as usize);
+        plan.map_or(0, |plan| plan.len() as u32)
+    }
+
+    /// A call with which the stream itself is damaged, most likely.
+    fn damaged_call(&mut self, random: &mut Random) -> Vec<u8> {
+        let sheet = request(self.number, self.last, &self.case.copies);
+        let kind = *random.pick(&[1, 2, 2, 2, 3, 3, 3, 3, 4, 0, 5]);
+        let mut fields = vec![Field::new(Role::Kind, kind)];
+        match kind {
+            2 => fields.extend(with_length(&sheet)),
+            3 => {
+                fields.push(Field::new(Role::Room, random.within(0, MOST_ROOM)));
+                fields.extend(with_length(&sheet));
+            }
+            _ => fields.push(Field::new(Role::Tenancy, random.number())),
+        }
+        let place = random.index(fields.len().min(3));
+        if random.once_in(3) {
+            damage::put(&mut fields, place, Fault::AboveHighest);
+        } else {
+            fields.truncate(random.within(1, 4) as usize);
+            damage::any(random, &mut fields);
+        }
+        bytes(&fields)
+    }
+}
+
+/// Keeps a sheet for later, up to a number of them.
+fn remember(sent: &mut Vec<Vec<u8>>, sheet: Vec<u8>) {
+    if sent.len() < 50 {
+        sent.push(sheet);
+    }
+}
+
+fn maybe_damage(random: &mut Random, fields: &mut Vec<Field>) {
+    let faults = [0, 0, 0, 0, 1, 2];
+    for _ in 0..*random.pick(&faults) {
+        damage::any(random, fields);
+    }
+}
+
+/// A few blocks with copies on the disks there are.
+fn fitting_copies(random: &mut Random, disks: u32) -> Vec<u64> {
+    let mask = u64::MAX >> (64 - disks);
+    let mut copies = Vec::new();
+    for _ in 0..random.within(0, 12) {
+        let wide = random.next() & random.next() & mask;
+        let block = if (1..=8).contains(&wide.count_ones()) {
+            wide
+        } else {
+            1 << random.within(0, disks - 1)
+        };
+        copies.push(block);
+    }
+    copies
+}
+
+/// Every truncation, and every fault at every field, of one whole hire, and of the sheets sent in each state.
+pub fn systematic() -> Vec<Stream> {
+    let whole = example();
+    let all = bytes(&whole);
+    let mut streams = in_each_state();
+    streams.extend((0..=all.len()).map(|length| vec![all[..length].to_vec()]));
+    for fault in FAULTS {
+        for place in 0..whole.len() {
+            let mut damaged = whole.clone();
+            damage::put(&mut damaged, place, fault);
+            streams.push(vec![bytes(&damaged)]);
+        }
+    }
+    streams
+}
+
+/// All damaged sheets while new, rented, set, and returned.
+fn in_each_state() -> Vec<Stream> {
+    let (table, read) = example_sheets();
+    let calls = |kind: &[u8], sheet: &[Field]| -> Stream {
+        let damaged = damaged_sheets(sheet);
+        damaged
+            .iter()
+            .map(|sheet| [kind, &shortest(sheet.len() as u32)[..], sheet].concat())
+            .collect()
+    };
+    let all = [calls(&[3, 99], &read), calls(&[2], &table)].concat();
+    let rent = vec![[shortest(1), shortest(300)].concat()];
+    let set = vec![[vec![2], bytes(&with_length(&table))].concat()];
+    let back = vec![[shortest(4), shortest(300)].concat()];
+    let states = [
+        vec![],
+        rent.clone(),
+        [rent.clone(), set.clone()].concat(),
+        [rent, set, back].concat(),
+    ];
+    states
+        .map(|before| [vec![shortest(700)], before, all.clone()].concat())
+        .to_vec()
+}
+
+/// Every truncation of a sheet, and every fault at every field.
+fn damaged_sheets(sheet: &[Field]) -> Vec<Vec<u8>> {
+    let whole = bytes(sheet);
+    let mut sheets: Vec<Vec<u8>> = (0..=whole.len())
+        .map(|length| whole[..length].to_vec())
+        .collect();
+    for fault in FAULTS {
+        for place in 0..sheet.len() {
+            let mut damaged = sheet.to_vec();
+            damage::put(&mut damaged, place, fault);
+            sheets.push(bytes(&damaged));
+        }
+    }
+    sheets
+}
+
+fn example_sheets() -> (Vec<Field>, Vec<Field>) {
+    let row = |cost, load, delay| Disk { cost, load, delay };
+    let table = settings(700, 300, &[row(4, 0, 1), row(3, 200, 0), row(10, 0, 0)]);
+    (table, request(700, 300, &[3, 3, 6]))
+}
+
+/// Rent, settings, request, return, and the old request to the next tenant.
+fn example() -> Vec<Field> {
+    let (table, read) = example_sheets();
+    let call = |kind| vec![Field::new(Role::Kind, kind)];
+    let tenancy = |value| vec![Field::new(Role::Tenancy, value)];
+    let room = vec![Field::new(Role::Room, 200)];
+    [
+        vec![Field::new(Role::Unit, 700)],
+        [call(1), tenancy(300)].concat(),
+        [call(2), with_length(&table)].concat(),
+        [call(3), room.clone(), with_length(&read)].concat(),
+        [call(4), tenancy(300)].concat(),
+        [call(1), tenancy(301)].concat(),
+        [call(3), room, with_length(&read)].concat(),
+    ]
+    .concat()
+}

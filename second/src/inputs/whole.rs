@@ -1,0 +1,205 @@
+//! Whole tables and requests, by family.
+
+use crate::model::{Disk, MOST_BLOCKS, MOST_COST, MOST_DELAY, MOST_DISKS, MOST_LOAD};
+use crate::random::Random;
+
+#[derive(Clone, Debug)]
+pub struct Case {
+    pub disks: Vec<Disk>,
+    pub copies: Vec<u64>,
+}
+
+/// A table with values up to the given ones.
+pub fn table(random: &mut Random, disks: u32, cost: u32, load: u32, delay: u32) -> Vec<Disk> {
+    let mut row = || Disk {
+        cost: random.within(1, cost),
+        load: random.within(0, load),
+        delay: random.within(0, delay),
+    };
+    (0..disks).map(|_| row()).collect()
+}
+
+/// So many different disks of low to high, as a copy number.
+fn choose(random: &mut Random, count: u32, low: u32, high: u32) -> u64 {
+    let count = count.min(high - low + 1);
+    let mut copies = 0u64;
+    while copies.count_ones() < count {
+        copies |= 1 << random.within(low, high);
+    }
+    copies
+}
+
+fn blocks(random: &mut Random, count: u32, most_copies: u32, disks: u32) -> Vec<u64> {
+    let mut block = || {
+        let copies = random.within(1, most_copies);
+        choose(random, copies, 0, disks - 1)
+    };
+    (0..count).map(|_| block()).collect()
+}
+
+/// A few disks and blocks with low values: most ties and contention come up here.
+pub fn small(random: &mut Random) -> Case {
+    let disks = random.within(1, 4);
+    let (cost, load, delay) = (
+        random.within(1, 9),
+        random.within(0, 9),
+        random.within(0, 5),
+    );
+    let count = random.within(0, 7);
+    Case {
+        disks: table(random, disks, cost, load, delay),
+        copies: blocks(random, count, 3, disks),
+    }
+}
+
+pub fn medium(random: &mut Random) -> Case {
+    let disks = random.within(1, MOST_DISKS);
+    let cost = *random.pick(&[3, 50, 10_000, MOST_COST]);
+    let load = *random.pick(&[0, 10, 5_000, MOST_LOAD]);
+    let delay = *random.pick(&[0, 10, 1_000, MOST_DELAY]);
+    let (count, most) = (random.within(1, 90), random.within(1, 8));
+    Case {
+        disks: table(random, disks, cost, load, delay),
+        copies: blocks(random, count, most, disks),
+    }
+}
+
+/// 64 disks, 1,024 blocks, 8 copies each.
+pub fn largest(random: &mut Random) -> Case {
+    let cost = *random.pick(&[1, 3, 1_000, MOST_COST]);
+    let load = *random.pick(&[0, 50, MOST_LOAD]);
+    let disks = table(random, MOST_DISKS, cost, load, MOST_DELAY / 100);
+    let copies = (0..MOST_BLOCKS)
+        .map(|_| choose(random, 8, 0, MOST_DISKS - 1))
+        .collect();
+    Case { disks, copies }
+}
+
+/// Every value on its sheet as long as it can be.
+pub fn longest(random: &mut Random) -> Case {
+    let row = Disk {
+        cost: MOST_COST,
+        load: MOST_LOAD,
+        delay: MOST_DELAY,
+    };
+    let copies = if random.once_in(2) {
+        0xFF << 56
+    } else {
+        1 << random.within(0, 63)
+    };
+    Case {
+        disks: vec![row; 64],
+        copies: vec![copies; MOST_BLOCKS as usize],
+    }
+}
+
+/// All copies on a few of many disks.
+pub fn contended(random: &mut Random) -> Case {
+    let disks = random.within(2, MOST_DISKS);
+    let hot = random.within(1, disks.min(8));
+    let low = random.within(0, disks - hot);
+    let count = random.within(1, 120);
+    let mut copies: Vec<u64> = Vec::new();
+    for _ in 0..count {
+        let held = random.within(1, 3);
+        copies.push(choose(random, held, low, low + hot - 1));
+    }
+    Case {
+        disks: table(random, disks, 20, 40, 10),
+        copies,
+    }
+}
+
+/// One row for all disks.
+pub fn equal(random: &mut Random) -> Case {
+    let disks = random.within(1, 16);
+    let row = table(random, 1, 12, 12, 12)[0];
+    let (count, most) = (random.within(1, 60), random.within(1, 5));
+    Case {
+        disks: vec![row; disks as usize],
+        copies: blocks(random, count, most, disks),
+    }
+}
+
+/// Low costs with loads near the highest, some idle disks that must not count.
+pub fn loaded(random: &mut Random) -> Case {
+    let count = random.within(2, 20);
+    let mut disks = table(random, count, 3, 50, 5);
+    for disk in &mut disks {
+        if random.once_in(2) {
+            disk.load = MOST_LOAD - disk.load;
+        }
+        if random.once_in(3) {
+            disk.delay = MOST_DELAY - disk.delay;
+        }
+    }
+    let blocks_count = random.within(1, 50);
+    Case {
+        copies: blocks(random, blocks_count, 4, count),
+        disks,
+    }
+}
+
+pub fn no_blocks(random: &mut Random) -> Case {
+    let disks = random.within(1, MOST_DISKS);
+    Case {
+        disks: table(random, disks, MOST_COST, MOST_LOAD, MOST_DELAY),
+        copies: Vec::new(),
+    }
+}
+
+pub fn one_disk(random: &mut Random) -> Case {
+    let count = random.within(1, 60);
+    Case {
+        disks: table(random, 1, MOST_COST, MOST_LOAD, MOST_DELAY),
+        copies: vec![1; count as usize],
+    }
+}
+
+/// Pairs of neighbours, with blocks on disk 0 alone that push chains through all disks.
+pub fn chained(random: &mut Random) -> Case {
+    let disks = random.within(2, MOST_DISKS);
+    let count = random.within(2, 120);
+    let mut copies: Vec<u64> = (0..count).map(|block| 3 << (block % (disks - 1))).collect();
+    for _ in 0..random.within(1, 16) {
+        let at = random.index(copies.len() + 1);
+        copies.insert(at, 1);
+    }
+    Case {
+        disks: table(random, disks, 3, 3, 3),
+        copies,
+    }
+}
+
+/// Every value at one end of its range.
+pub fn edges(random: &mut Random) -> Case {
+    let disks = *random.pick(&[1, 2, 63, 64]);
+    let row = |random: &mut Random| Disk {
+        cost: *random.pick(&[1, MOST_COST]),
+        load: *random.pick(&[0, MOST_LOAD]),
+        delay: *random.pick(&[0, MOST_DELAY]),
+    };
+    let table = (0..disks).map(|_| row(random)).collect();
+    let count = random.within(1, 40);
+    let most = *random.pick(&[1, 8]);
+    Case {
+        disks: table,
+        copies: blocks(random, count, most, disks),
+    }
+}
+
+type Family = fn(&mut Random) -> Case;
+
+const FAMILIES: [Family; 9] = [
+    medium, contended, equal, loaded, no_blocks, one_disk, chained, edges, small,
+];
+
+/// A case of any family; small ones come most often, the largest seldom.
+pub fn any(random: &mut Random) -> Case {
+    match random.within(1, 200) {
+        1 => largest(random),
+        2 => longest(random),
+        3..=100 => small(random),
+        _ => random.pick(&FAMILIES)(random),
+    }
+}

@@ -1,0 +1,119 @@
+//! The retrieval model, as the document defines it.
+
+pub const MOST_DISKS: u32 = 64;
+pub const MOST_BLOCKS: u32 = 1_024;
+pub const MOST_COPIES: u32 = 8;
+pub const MOST_COST: u32 = 1_000_000;
+pub const MOST_LOAD: u32 = 100_000_000;
+pub const MOST_DELAY: u32 = 1_000_000;
+pub const MOST_TIME: u32 = 1_125_000_000;
+
+/// A row of the table.
+#[derive(Clone, Copy, Debug, PartialEq, Eq)]
+pub struct Disk {
+    pub cost: u32,
+    pub load: u32,
+    pub delay: u32,
+}
+
+/// The answer to a read request.
+#[derive(Clone, Debug, PartialEq, Eq)]
+pub struct Plan {
+    pub time: u32,
+    pub disks: Vec<u8>,
+    pub short: Vec<u16>,
+}
+
+impl Disk {
+    fn start(&self) -> u64 {
+        u64::from(self.delay) + u64::from(self.load)
+    }
+
+    /// When reading so many blocks ends; an idle disk ends at 0.
+    pub fn end(&self, blocks: u64) -> u64 {
+        if blocks == 0 {
+            0
+        } else {
+            self.start() + blocks * u64::from(self.cost)
+        }
+    }
+
+    /// How many blocks can be read by a time.
+    pub fn capacity(&self, time: u64) -> u64 {
+        if time < self.start() {
+            0
+        } else {
+            (time - self.start()) / u64::from(self.cost)
+        }
+    }
+}
+
+/// Whether a block with these copies has one on the disk.
+pub fn holds(copies: u64, disk: usize) -> bool {
+    copies >> disk & 1 == 1
+}
+
+/// The disks of a copy number, rising.
+pub fn disks_of(copies: u64) -> Vec<usize> {
+    (0..64).filter(|&disk| holds(copies, disk)).collect()
+}
+
+/// The latest end over all disks of a schedule.
+pub fn response(disks: &[Disk], schedule: &[usize]) -> u64 {
+    let mut blocks = vec![0u64; disks.len()];
+    for &disk in schedule {
+        blocks[disk] += 1;
+    }
+    let ends = disks
+        .iter()
+        .zip(blocks)
+        .map(|(disk, count)| disk.end(count));
+    ends.max().unwrap_or(0)
+}
+
+/// The size of a set of blocks less the capacities of all disks that hold a copy of any of them.
+pub fn shortfall(disks: &[Disk], copies: &[u64], set: &[usize], time: u64) -> i64 {
+    let held = set.iter().fold(0u64, |all, &block| all | copies[block]);
+    let capacities: u64 = disks_of(held)
+        .iter()
+        .map(|&disk| disks[disk].capacity(time))
+        .sum();
+    set.len() as i64 - capacities as i64
+}
+
+#[cfg(test)]
+mod tests {
+    use super::*;
+
+    #[test]
+    fn p9() {
+        let disk = Disk {
+            cost: 3,
+            load: 2,
+            delay: 0,
+        };
+        let found: Vec<u64> = [1, 4, 5, 7, 8]
+            .iter()
+            .map(|&time| disk.capacity(time))
+            .collect();
+        assert_eq!(found, [0, 0, 1, 1, 2]);
+    }
+
+    #[test]
+    fn an_idle_disk_ends_at_0() {
+        let disks = [
+            Disk {
+                cost: 1,
+                load: 9,
+                delay: 9,
+            },
+            Disk {
+                cost: 2,
+                load: 0,
+                delay: 1,
+            },
+        ];
+        assert_eq!(response(&disks, &[1, 1]), 5);
+        assert_eq!(response(&disks, &[]), 0);
+    }
+}

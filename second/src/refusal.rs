@@ -1,0 +1,34 @@
+//! The refusal numbers of document 01.
+
+/// A refusal, by its number.
+#[derive(Clone, Copy, Debug, PartialEq, Eq)]
+pub struct Refusal(pub u8);
+
+/// The sheet ends inside a number or before one that is due.
+pub const ENDS: Refusal = Refusal(1);
+/// A number is not in shortest form or is too large.
+pub const FORM: Refusal = Refusal(2);
+/// The kind is not the one this call takes.
+pub const KIND: Refusal = Refusal(3);
+/// The unit number differs.
+pub const OTHER_UNIT: Refusal = Refusal(4);
+/// Not rented, or the tenancy differs.
+pub const OTHER_TENANCY: Refusal = Refusal(5);
+/// A count or value is out of its range.
+pub const RANGE: Refusal = Refusal(6);
+/// A block without copies.
+pub const NO_COPY: Refusal = Refusal(7);
+/// A number that should rise does not.
+pub const NOT_RISING: Refusal = Refusal(8);
+/// Bytes follow the last field.
+pub const TRAILING: Refusal = Refusal(9);
+/// A read request before any settings.
+pub const NO_SETTINGS: Refusal = Refusal(10);
+/// The result is longer than the lent buffer.
+pub const NO_ROOM: Refusal = Refusal(11);
+/// Rent while rented.
+pub const RENTED: Refusal = Refusal(12);
+/// Rent not above the last tenancy.
+pub const NOT_ABOVE: Refusal = Refusal(13);
+/// Return while not rented, or of another tenancy.
+pub const NOT_RETURNED: Refusal = Refusal(14);

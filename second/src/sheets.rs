@@ -1,0 +1,291 @@
+//! The three sheets: readers with their refusals, and writers.
+
+use crate::model::*;
+use crate::number::{write, Reader};
+use crate::refusal::*;
+
+pub const SETTINGS: u32 = 1;
+pub const REQUEST: u32 = 2;
+pub const PLAN: u32 = 3;
+pub const LONGEST_REQUEST: u32 = 9_229;
+pub const LONGEST_PLAN: usize = 2_964;
+
+/// Kind, unit and tenancy; tenancy 0 stands for none, and then every number gets 5.
+fn read_head(reader: &mut Reader, kind: u32, unit: u32, tenancy: u32) -> Result<(), Refusal> {
+    if reader.number()? != kind {
+        return Err(KIND);
+    }
+    if reader.number()? != unit {
+        return Err(OTHER_UNIT);
+    }
+    if reader.number()? != tenancy || tenancy == 0 {
+        return Err(OTHER_TENANCY);
+    }
+    Ok(())
+}
+
+fn write_head(kind: u32, unit: u32, tenancy: u32) -> Vec<u8> {
+    let mut out = Vec::new();
+    for value in [kind, unit, tenancy] {
+        write(&mut out, value);
+    }
+    out
+}
+
+/// A number of low to high that is above the one before it, if there is one.
+fn read_rising(reader: &mut Reader, high: u32, before: Option<u32>) -> Result<u32, Refusal> {
+    let value = reader.within(0, high)?;
+    if before.is_some_and(|before| value <= before) {
+        return Err(NOT_RISING);
+    }
+    Ok(value)
+}
+
+pub fn read_settings(sheet: &[u8], unit: u32, tenancy: u32) -> Result<Vec<Disk>, Refusal> {
+    let mut reader = Reader::new(sheet);
+    read_head(&mut reader, SETTINGS, unit, tenancy)?;
+    let count = reader.within(1, MOST_DISKS)?;
+    let mut disks = Vec::new();
+    for _ in 0..count {
+        let cost = reader.within(1, MOST_COST)?;
+        let load = reader.within(0, MOST_LOAD)?;
+        let delay = reader.within(0, MOST_DELAY)?;
+        disks.push(Disk { cost, load, delay });
+    }
+    reader.finish()?;
+    Ok(disks)
+}
+
+/// The copies of each block; a table of 0 disks stands for no settings yet.
+pub fn read_request(
+    sheet: &[u8],
+    unit: u32,
+    tenancy: u32,
+    disks: u32,
+) -> Result<Vec<u64>, Refusal> {
+    let mut reader = Reader::new(sheet);
+    read_head(&mut reader, REQUEST, unit, tenancy)?;
+    if disks == 0 {
+        return Err(NO_SETTINGS);
+    }
+    let count = reader.within(0, MOST_BLOCKS)?;
+    let copies = (0..count)
+        .map(|_| read_copies(&mut reader, disks))
+        .collect::<Result<_, _>>()?;
+    reader.finish()?;
+    Ok(copies)
+}
+
+fn read_copies(reader: &mut Reader, disks: u32) -> Result<u64, Refusal> {
+    let count = reader.number()?;
+    if count == 0 {
+        return Err(NO_COPY);
+    }
+    if count > MOST_COPIES {
+        return Err(RANGE);
+    }
+    let (mut copies, mut before) = (0, None);
+    for _ in 0..count {
+        let disk = read_rising(reader, disks - 1, before)?;
+        copies |= 1u64 << disk;
+        before = Some(disk);
+    }
+    Ok(copies)
+}
+
+pub fn read_plan(sheet: &[u8], unit: u32, tenancy: u32) -> Result<Plan, Refusal> {
+    let mut reader = Reader::new(sheet);
+    read_head(&mut reader, PLAN, unit, tenancy)?;
+    let count = reader.within(0, MOST_BLOCKS)?;
+    let some = count.min(1);
+    let time = reader.within(some, some * MOST_TIME)?;
+    let mut disks = Vec::new();
+    for _ in 0..count {
+        disks.push(reader.within(0, MOST_DISKS - 1)? as u8);
+    }
+    let size = reader.within(some, count)?;
+    let (mut short, mut before) = (Vec::new(), None);
+    for _ in 0..size {
+        let block = read_rising(&mut reader, count - 1, before)?;
+        short.push(block as u16);
+        before = Some(block);
+    }
+    reader.finish()?;
+    Ok(Plan { time, disks, short })
+}
+
+/// A sheet of at most the room's length, or 11.
+fn fitting(sheet: Vec<u8>, room: usize) -> Result<Vec<u8>, Refusal> {
+    if sheet.len() > room {
+        return Err(NO_ROOM);
+    }
+    Ok(sheet)
+}
+
+pub fn write_plan(unit: u32, tenancy: u32, plan: &Plan, room: usize) -> Result<Vec<u8>, Refusal> {
+    let mut out = write_head(PLAN, unit, tenancy);
+    write(&mut out, plan.disks.len() as u32);
+    write(&mut out, plan.time);
+    for &disk in &plan.disks {
+        write(&mut out, u32::from(disk));
+    }
+    write(&mut out, plan.short.len() as u32);
+    for &block in &plan.short {
+        write(&mut out, u32::from(block));
+    }
+    fitting(out, room)
+}
+
+fn in_range(value: u32, low: u32, high: u32) -> Result<u32, Refusal> {
+    if value < low || value > high {
+        return Err(RANGE);
+    }
+    Ok(value)
+}
+
+/// A count that may be wider than a number on a sheet.
+fn count_in_range(count: usize, low: u32, high: u32) -> Result<u32, Refusal> {
+    in_range(u32::try_from(count).map_err(|_| RANGE)?, low, high)
+}
+
+/// The desk's settings writer; the three lists come one row a disk.
+pub fn write_settings(
+    unit: u32,
+    tenancy: u32,
+    disks: &[Disk],
+    room: usize,
+) -> Result<Vec<u8>, Refusal> {
+    in_range(tenancy, 1, u32::MAX)?;
+    let mut out = write_head(SETTINGS, unit, tenancy);
+    write(&mut out, count_in_range(disks.len(), 1, MOST_DISKS)?);
+    for disk in disks {
+        write(&mut out, in_range(disk.cost, 1, MOST_COST)?);
+        write(&mut out, in_range(disk.load, 0, MOST_LOAD)?);
+        write(&mut out, in_range(disk.delay, 0, MOST_DELAY)?);
+    }
+    fitting(out, room)
+}
+
+/// The desk's request writer, which is told the number of disks.
+pub fn write_request(
+    unit: u32,
+    tenancy: u32,
+    disks: u32,
+    copies: &[u64],
+    room: usize,
+) -> Result<Vec<u8>, Refusal> {
+    in_range(tenancy, 1, u32::MAX)?;
+    in_range(disks, 1, MOST_DISKS)?;
+    let mut out = write_head(REQUEST, unit, tenancy);
+    write(&mut out, count_in_range(copies.len(), 0, MOST_BLOCKS)?);
+    for &block in copies {
+        write_copies(&mut out, disks, block)?;
+    }
+    fitting(out, room)
+}
+
+fn write_copies(out: &mut Vec<u8>, disks: u32, copies: u64) -> Result<(), Refusal> {
+    let held = disks_of(copies);
+    if held.is_empty() {
+        return Err(NO_COPY);
+    }
+    let count = count_in_range(held.len(), 1, MOST_COPIES)?;
+    if held.iter().any(|&disk| disk >= disks as usize) {
+        return Err(RANGE);
+    }
+    write(out, count);
+    for disk in held {
+        write(out, disk as u32);
+    }
+    Ok(())
+}
+
+#[cfg(test)]
+mod tests {
+    use super::*;
+    use crate::inputs::whole;
+    use crate::planner;
+    use crate::random::Random;
+
+    #[test]
+    fn the_longest_sheets() {
+        let row = Disk {
+            cost: MOST_COST,
+            load: MOST_LOAD,
+            delay: MOST_DELAY,
+        };
+        let settings = write_settings(u32::MAX, u32::MAX, &[row; 64], 652).unwrap();
+        assert_eq!(settings.len(), 652);
+        let request = write_request(u32::MAX, u32::MAX, 64, &[0xFF << 56; 1_024], 9_229).unwrap();
+        assert_eq!(request.len(), 9_229);
+        let plan = Plan {
+            time: MOST_TIME,
+            disks: vec![63; 1_024],
+            short: (0..1_024).collect(),
+        };
+        let sheet = write_plan(u32::MAX, u32::MAX, &plan, LONGEST_PLAN).unwrap();
+        assert_eq!(sheet.len(), LONGEST_PLAN);
+        assert_eq!(
+            write_plan(u32::MAX, u32::MAX, &plan, LONGEST_PLAN - 1),
+            Err(NO_ROOM)
+        );
+        assert_eq!(read_plan(&sheet, u32::MAX, u32::MAX), Ok(plan));
+    }
+
+    #[test]
+    fn what_is_written_is_read() {
+        let mut random = Random::new(21);
+        for _ in 0..2_000 {
+            let case = whole::any(&mut random);
+            let (unit, tenancy) = (random.number(), random.number().max(1));
+            let settings = write_settings(unit, tenancy, &case.disks, 652).unwrap();
+            assert_eq!(
+                read_settings(&settings, unit, tenancy),
+                Ok(case.disks.clone())
+            );
+            let disks = case.disks.len() as u32;
+            let request = write_request(unit, tenancy, disks, &case.copies, 9_229).unwrap();
+            assert_eq!(
+                read_request(&request, unit, tenancy, disks),
+                Ok(case.copies.clone())
+            );
+            if case.copies.len() < 100 {
+                let plan = planner::plan(&case.disks, &case.copies);
+                let sheet = write_plan(unit, tenancy, &plan, LONGEST_PLAN).unwrap();
+                assert_eq!(read_plan(&sheet, unit, tenancy), Ok(plan));
+            }
+        }
+    }
+
+    #[test]
+    fn writers_refuse_in_field_order() {
+        let row = |cost, load, delay| Disk { cost, load, delay };
+        let write = |tenancy, disks: &[Disk], room| {
+            write_settings(7, tenancy, disks, room).map(|sheet| sheet.len())
+        };
+        assert_eq!(write(0, &[row(1, 0, 0)], 0), Err(RANGE));
+        assert_eq!(write(1, &[], 0), Err(RANGE));
+        assert_eq!(write(1, &[row(1, 0, 0); 65], 0), Err(RANGE));
+        for bad in [
+            row(0, 0, 0),
+            row(1_000_001, 0, 0),
+            row(1, 100_000_001, 0),
+            row(1, 0, 1_000_001),
+        ] {
+            assert_eq!(write(1, &[row(1, 0, 0), bad], 0), Err(RANGE));
+        }
+        assert_eq!(write(1, &[row(1, 0, 0)], 6), Err(NO_ROOM));
+        assert_eq!(write(1, &[row(1, 0, 0)], 7), Ok(7));
+        let write = |disks, copies: &[u64], room| {
+            write_request(7, 1, disks, copies, room).map(|sheet| sheet.len())
+        };
+        assert_eq!(write(0, &[], 10), Err(RANGE));
+        assert_eq!(write(65, &[], 10), Err(RANGE));
+        assert_eq!(write(64, &[1; 1_025], 10), Err(RANGE));
+        assert_eq!(write(3, &[0, 8], 0), Err(NO_COPY));
+        assert_eq!(write(3, &[8, 0], 0), Err(RANGE));
+        assert_eq!(write(64, &[511, 0], 0), Err(RANGE));
+        assert_eq!(write(64, &[510], 12), Err(NO_ROOM));
+        assert_eq!(write(64, &[510], 13), Ok(13));
+    }
+}

@@ -1,0 +1,136 @@
+//! The shelf program: a unit as a process, one line for each call.
+
+use std::io::{BufRead, Write};
+
+use crate::hex;
+use crate::number::{Groups, Step};
+use crate::refusal::{Refusal, ENDS, FORM, KIND, RANGE};
+use crate::sheets::LONGEST_REQUEST;
+use crate::unit::Unit;
+
+pub const MOST_ROOM: u32 = 4_096;
+
+/// Answers calls to the end of the input; a damaged stream ends with `stopped`.
+pub fn run(input: &mut impl BufRead, output: &mut impl Write) {
+    if let Err(Refusal(number)) = serve(input, output) {
+        let _ = writeln!(output, "stopped {number}");
+    }
+    let _ = output.flush();
+}
+
+/// All lines for a whole stream.
+pub fn lines(stream: &[u8]) -> Vec<u8> {
+    let mut output = Vec::new();
+    run(&mut &stream[..], &mut output);
+    output
+}
+
+fn serve(input: &mut impl BufRead, output: &mut impl Write) -> Result<(), Refusal> {
+    let mut unit = Unit::new(number(input)?);
+    while let Some(first) = byte(input) {
+        let line = call(&mut unit, number_from(first, input)?, input)?;
+        if writeln!(output, "{line}")
+            .and_then(|()| output.flush())
+            .is_err()
+        {
+            return Ok(());
+        }
+    }
+    Ok(())
+}
+
+/// One call, read and carried out.
+fn call(unit: &mut Unit, kind: u32, input: &mut impl BufRead) -> Result<String, Refusal> {
+    let answer = match kind {
+        1 => unit.rent(number(input)?).map(|()| "rented".to_string()),
+        2 => unit.settings(&sheet(input)?).map(|()| "set".to_string()),
+        3 => {
+            let room = at_most(input, MOST_ROOM)?;
+            let request = sheet(input)?;
+            unit.request(&request, room as usize)
+                .map(|plan| format!("plan {}", hex::plain(&plan)))
+        }
+        4 => unit
+            .give_back(number(input)?)
+            .map(|()| "returned".to_string()),
+        _ => return Err(KIND),
+    };
+    Ok(answer.unwrap_or_else(|Refusal(number)| format!("refused {number}")))
+}
+
+/// The next byte; a read error counts as the end.
+fn byte(input: &mut impl BufRead) -> Option<u8> {
+    let mut one = [0];
+    input.read_exact(&mut one).ok().map(|()| one[0])
+}
+
+fn number(input: &mut impl BufRead) -> Result<u32, Refusal> {
+    let first = byte(input).ok_or(ENDS)?;
+    number_from(first, input)
+}
+
+/// A number whose first byte is read.
+fn number_from(first: u8, input: &mut impl BufRead) -> Result<u32, Refusal> {
+    let mut groups = Groups::default();
+    let mut next = first;
+    loop {
+        match groups.push(next) {
+            Step::More => next = byte(input).ok_or(ENDS)?,
+            Step::Done(value) => return Ok(value),
+            Step::Bad => return Err(FORM),
+        }
+    }
+}
+
+fn at_most(input: &mut impl BufRead, high: u32) -> Result<u32, Refusal> {
+    let value = number(input)?;
+    if value > high {
+        return Err(RANGE);
+    }
+    Ok(value)
+}
+
+/// A length, then so many bytes.
+fn sheet(input: &mut impl BufRead) -> Result<Vec<u8>, Refusal> {
+    let length = at_most(input, LONGEST_REQUEST)?;
+    let mut bytes = vec![0; length as usize];
+    input.read_exact(&mut bytes).map_err(|_| ENDS)?;
+    Ok(bytes)
+}
+
+#[cfg(test)]
+mod tests {
+    use super::*;
+
+    fn text(stream: &[u8]) -> String {
+        String::from_utf8(lines(stream)).unwrap()
+    }
+
+    #[test]
+    fn a_hire() {
+        let mut stream = vec![7, 1, 5, 2, 13, 1, 7, 5, 3, 4, 0, 1, 3, 2, 0, 10, 0, 0];
+        stream.extend([
+            3, 8, 6, 2, 7, 5, 1, 1, 2, 3, 7, 6, 2, 7, 5, 1, 1, 2, 4, 5, 1, 5, 4, 5,
+        ]);
+        let answer =
+            "rented\nset\nplan 030705010a020100\nrefused 11\nreturned\nrefused 13\nrefused 14\n";
+        assert_eq!(text(&stream), answer);
+    }
+
+    #[test]
+    fn damaged_streams() {
+        assert_eq!(text(&[]), "stopped 1\n");
+        assert_eq!(text(&[7]), "");
+        assert_eq!(text(&[7, 0x80]), "stopped 1\n");
+        assert_eq!(text(&[7, 0x81, 0]), "stopped 2\n");
+        assert_eq!(text(&[7, 5]), "stopped 3\n");
+        assert_eq!(text(&[7, 0]), "stopped 3\n");
+        assert_eq!(text(&[7, 1]), "stopped 1\n");
+        assert_eq!(text(&[7, 1, 5, 2, 2, 1]), "rented\nstopped 1\n");
+        assert_eq!(text(&[7, 2, 0x8E, 0x48]), "stopped 6\n");
+        assert_eq!(text(&[7, 2, 0x8D, 0x48]), "stopped 1\n");
+        assert_eq!(text(&[7, 3, 0x81, 0x20]), "stopped 6\n");
+        assert_eq!(text(&[7, 3, 0x80, 0x20]), "stopped 1\n");
+        assert_eq!(text(&[7, 3, 0x80, 0x20, 0]), "refused 1\n");
+    }
+}

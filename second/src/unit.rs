@@ -1,0 +1,133 @@
+//! The unit's life.
+
+use crate::model::Disk;
+use crate::planner;
+use crate::refusal::{Refusal, NOT_ABOVE, NOT_RETURNED, RENTED};
+use crate::sheets::{read_request, read_settings, write_plan};
+
+/// A unit; an empty table means no settings yet.
+#[derive(Clone, Debug, PartialEq, Eq)]
+pub struct Unit {
+    number: u32,
+    last: u32,
+    rented: bool,
+    disks: Vec<Disk>,
+}
+
+impl Unit {
+    pub fn new(number: u32) -> Self {
+        Unit {
+            number,
+            last: 0,
+            rented: false,
+            disks: Vec::new(),
+        }
+    }
+
+    pub fn disks(&self) -> u32 {
+        self.disks.len() as u32
+    }
+
+    /// The current tenancy, 0 while not rented.
+    pub fn tenancy(&self) -> u32 {
+        if self.rented {
+            self.last
+        } else {
+            0
+        }
+    }
+
+    pub fn rent(&mut self, tenancy: u32) -> Result<(), Refusal> {
+        if self.rented {
+            return Err(RENTED);
+        }
+        if tenancy <= self.last {
+            return Err(NOT_ABOVE);
+        }
+        self.rented = true;
+        self.last = tenancy;
+        Ok(())
+    }
+
+    pub fn settings(&mut self, sheet: &[u8]) -> Result<(), Refusal> {
+        self.disks = read_settings(sheet, self.number, self.tenancy())?;
+        Ok(())
+    }
+
+    /// The plan sheet, if it fits the room.
+    pub fn request(&self, sheet: &[u8], room: usize) -> Result<Vec<u8>, Refusal> {
+        let copies = read_request(sheet, self.number, self.tenancy(), self.disks())?;
+        let plan = planner::plan(&self.disks, &copies);
+        write_plan(self.number, self.tenancy(), &plan, room)
+    }
+
+    pub fn give_back(&mut self, tenancy: u32) -> Result<(), Refusal> {
+        if !self.rented || tenancy != self.last {
+            return Err(NOT_RETURNED);
+        }
+        self.rented = false;
+        self.disks.clear();
+        Ok(())
+    }
+}
+
+#[cfg(test)]
+mod tests {
+    use super::*;
+    use crate::refusal::*;
+
+    const SETTINGS: [u8; 13] = [1, 7, 5, 3, 4, 0, 1, 3, 2, 0, 10, 0, 0];
+
+    #[test]
+    fn a_hire() {
+        let mut unit = Unit::new(7);
+        assert_eq!(unit.rent(0), Err(NOT_ABOVE));
+        assert_eq!(unit.settings(&SETTINGS), Err(OTHER_TENANCY));
+        assert_eq!(unit.rent(5), Ok(()));
+        assert_eq!(unit.rent(4), Err(RENTED));
+        assert_eq!(unit.request(&[2, 7, 5], 99), Err(NO_SETTINGS));
+        assert_eq!(unit.settings(&SETTINGS), Ok(()));
+        assert_eq!(
+            unit.request(&[2, 7, 5, 1, 1, 2], 9),
+            Ok(vec![3, 7, 5, 1, 10, 2, 1, 0])
+        );
+        assert_eq!(
+            unit.request(&[2, 7, 5, 1, 1, 2], 8),
+            Ok(vec![3, 7, 5, 1, 10, 2, 1, 0])
+        );
+        assert_eq!(unit.request(&[2, 7, 5, 1, 1, 2], 7), Err(NO_ROOM));
+        assert_eq!(unit.request(&[2, 7, 5, 0], 6), Ok(vec![3, 7, 5, 0, 0, 0]));
+        assert_eq!(unit.give_back(4), Err(NOT_RETURNED));
+        assert_eq!(unit.give_back(5), Ok(()));
+        assert_eq!(unit.give_back(5), Err(NOT_RETURNED));
+        assert_eq!(unit.request(&[2, 7, 5], 99), Err(OTHER_TENANCY));
+        assert_eq!(unit.request(&[2, 8], 99), Err(OTHER_UNIT));
+        assert_eq!(unit.rent(5), Err(NOT_ABOVE));
+        assert_eq!(unit.rent(6), Ok(()));
+        let mut fresh = Unit::new(7);
+        assert_eq!(fresh.rent(6), Ok(()));
+        assert_eq!(unit, fresh);
+    }
+
+    #[test]
+    fn a_shorter_sheet_leaves_no_rows() {
+        let mut unit = Unit::new(7);
+        unit.rent(5).unwrap();
+        unit.settings(&SETTINGS).unwrap();
+        unit.settings(&[1, 7, 5, 1, 4, 0, 1]).unwrap();
+        assert_eq!(unit.request(&[2, 7, 5, 1, 1, 1], 99), Err(RANGE));
+        assert_eq!(unit.settings(&[1, 7, 5, 1, 9, 9]), Err(ENDS));
+        assert_eq!(
+            unit.request(&[2, 7, 5, 1, 1, 0], 99),
+            Ok(vec![3, 7, 5, 1, 5, 0, 1, 0])
+        );
+    }
+
+    #[test]
+    fn the_last_tenancy_of_all() {
+        let mut unit = Unit::new(0);
+        unit.rent(u32::MAX).unwrap();
+        unit.give_back(u32::MAX).unwrap();
+        assert_eq!(unit.rent(u32::MAX), Err(NOT_ABOVE));
+    }
+}

@@ -1,0 +1,79 @@
+//! Runs a file of sheet vectors against the three readers.
+
+use crate::hex;
+use crate::model::{disks_of, Disk, Plan};
+use crate::refusal::Refusal;
+use crate::sheets::{read_plan, read_request, read_settings};
+
+/// How many vectors hold, or the first that does not.
+pub fn run(text: &str) -> Result<String, String> {
+    let mut count = 0;
+    for line in text
+        .lines()
+        .filter(|line| !line.is_empty() && !line.starts_with('#'))
+    {
+        let (vector, expected) = line
+            .split_once(" -> ")
+            .ok_or_else(|| format!("not a vector: {line}"))?;
+        let found = outcome(vector).ok_or_else(|| format!("not a vector: {line}"))?;
+        if found != expected {
+            return Err(format!("{line}\nfound: {found}"));
+        }
+        count += 1;
+    }
+    Ok(format!("vectors: {count} the same"))
+}
+
+fn outcome(vector: &str) -> Option<String> {
+    let words: Vec<&str> = vector.split(' ').collect();
+    let (kind, sheet) = (*words.first()?, hex::read(words.last()?)?);
+    let numbers: Vec<u32> = words[1..words.len() - 1]
+        .iter()
+        .map(|word| word.parse().ok())
+        .collect::<Option<_>>()?;
+    let result = match (kind, &numbers[..]) {
+        ("settings", &[unit, tenancy]) => {
+            read_settings(&sheet, unit, tenancy).map(|disks| show_disks(&disks))
+        }
+        ("request", &[unit, tenancy, disks]) => {
+            read_request(&sheet, unit, tenancy, disks).map(|copies| show_copies(&copies))
+        }
+        ("plan", &[unit, tenancy]) => read_plan(&sheet, unit, tenancy).map(|plan| show_plan(&plan)),
+        _ => return None,
+    };
+    Some(result.unwrap_or_else(|Refusal(number)| format!("refused {number}")))
+}
+
+fn join<T: ToString>(list: &[T], by: &str) -> String {
+    list.iter()
+        .map(|value| value.to_string())
+        .collect::<Vec<_>>()
+        .join(by)
+}
+
+fn show_disks(disks: &[Disk]) -> String {
+    let mut words = vec![disks.len().to_string()];
+    words.extend(
+        disks
+            .iter()
+            .map(|disk| join(&[disk.cost, disk.load, disk.delay], ",")),
+    );
+    words.join(" ")
+}
+
+fn show_copies(copies: &[u64]) -> String {
+    let mut words = vec![copies.len().to_string()];
+    words.extend(copies.iter().map(|&block| join(&disks_of(block), ",")));
+    words.join(" ")
+}
+
+fn show_plan(plan: &Plan) -> String {
+    let mut words = [plan.disks.len() as u32, plan.time, plan.short.len() as u32]
+        .map(|value| value.to_string())
+        .to_vec();
+    words.push("|".to_string());
+    words.extend(plan.disks.iter().map(|disk| disk.to_string()));
+    words.push("|".to_string());
+    words.extend(plan.short.iter().map(|block| block.to_string()));
+    words.join(" ")
+}
