@@ -1,0 +1,4 @@
+pub mod Dead
+pub mod Tries
+pub mod Spreads
+pub mod Lowering

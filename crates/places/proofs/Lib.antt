@@ -1,0 +1,5 @@
+pub mod Laws
+pub mod Masks
+pub mod Turns
+pub mod Labels
+pub mod Steps

@@ -1,0 +1,81 @@
+-- The search over disks and displaced blocks.
+--     Inside           every disk of one mask is in another
+--     Linked, Settled  a block that belongs to the search; one that brings it no new disk
+--     Label, Tree      how a disk was reached: by a block that is on none, or on a disk reached sooner
+--     Way, Stuck       the two outcomes: a labelled way to a disk, or reached disks that are full and closed
+use Prim.Native.Nat.{ℕ, _+_, _≤_, _<_}
+use mathlib.Core.Path.{_≡_}
+use mathlib.Core.Logic.{_⊎_}
+use mathlib.Core.Bool.{Bool, true, false, _&&_}
+use mathlib.Core.List.{List}
+use lib.ListN.{getD}
+use lib.Dec.{ltb, eqb}
+use Rattle.mask.specs.Has.{has}
+use Rattle.model.specs.Count.{bit}
+use Rattle.model.specs.Shortfall.{touches}
+use Rattle.model.specs.Closed.{Closed}
+use Rattle.places.specs.Places.{entry, holds, roomy, Placed}
+
+-- the disks below n that have room
+abbrev pub Open : ℕ → List ℕ → List ℕ → ℕ → Type 0
+Open n caps loads m = (d : ℕ) → has m d ≡ (ltb d n && roomy caps loads d)
+
+-- every disk of m is in x
+abbrev pub Inside : ℕ → ℕ → Type 0
+Inside m x = (d : ℕ) → has m d ≡ true → has x d ≡ true
+
+-- a block at this place belongs to the search: it is on no disk, or on a reached one
+abbrev pub Linked : ℕ → ℕ → ℕ → Type 0
+Linked n seat reached = (seat ≡ n) ⊎ (has reached seat ≡ true)
+
+-- block b brings no new disk to the search
+abbrev pub Settled : ℕ → List ℕ → List ℕ → ℕ → ℕ → Type 0
+Settled n masks at reached b = Linked n (getD at b 0) reached → Inside (getD masks b 0) reached
+
+-- whether a block brings a new disk: it belongs to the search, and has a copy that is not reached
+pub record Brings (n copies seat reached : ℕ) (r : Bool) : Type 0 where
+  pub yes : r ≡ true → Linked n seat reached × ((d : ℕ) × (has copies d ≡ true) × (has reached d ≡ false))
+  pub no : r ≡ false → Linked n seat reached → Inside copies reached
+
+-- a disk of m
+pub record Chosen (m r : ℕ) : Type 0 where
+  pub disk : r < 64
+  pub member : has m r ≡ true
+
+-- the first block from b on that brings a new disk, or q
+pub record Scanned (n q b : ℕ) (masks at : List ℕ) (reached r : ℕ) : Type 0 where
+  pub later : b ≤ r
+  pub within : r ≤ q
+  pub quiet : (i : ℕ) → b ≤ i → i < r → Settled n masks at reached i
+  pub found : r < q → Linked n (getD at r 0) reached × ((d : ℕ) × (holds masks r d ≡ true) × (has reached d ≡ false))
+
+-- disk d was reached by a copy of a block that is on no disk, or on one that was reached sooner
+pub record Label (n q : ℕ) (masks at by stamp : List ℕ) (X : ℕ → Bool) (d : ℕ) : Type 0 where
+  pub disk : d < n
+  pub block : getD by d 0 < q
+  pub copy : holds masks (getD by d 0) d ≡ true
+  pub parent : (getD at (getD by d 0) 0 ≡ n)
+      ⊎ ((X (getD at (getD by d 0) 0) ≡ true) × (getD stamp (getD at (getD by d 0) 0) 0 < getD stamp d 0))
+
+-- every disk of X has its label
+abbrev pub Tree : ℕ → ℕ → List ℕ → List ℕ → List ℕ → List ℕ → (ℕ → Bool) → Type 0
+Tree n q masks at by stamp X = (d : ℕ) → X d ≡ true → Label n q masks at by stamp X d
+
+-- labels lead from disk d back to a block that is on no disk
+pub record Way (n q : ℕ) (masks at by stamp : List ℕ) (d : ℕ) : Type 0 where
+  pub X : ℕ → Bool
+  pub tree : Tree n q masks at by stamp X
+  pub here : X d ≡ true
+
+-- the reached disks x have no room, the blocks on them and on none have all copies there, and every closed set touches them
+pub record Stuck (n q : ℕ) (masks at : List ℕ) (room : ℕ → Bool) (x : ℕ) : Type 0 where
+  pub small : (d : ℕ) → has x d ≡ true → d < n
+  pub full : (d : ℕ) → has x d ≡ true → room d ≡ false
+  pub owns : (b : ℕ) → b < q → Settled n masks at x b
+  pub least : (capacities : ℕ → ℕ) (S : ℕ → Bool) → Closed n q (holds masks) capacities (entry at) S
+      → (d : ℕ) → has x d ≡ true → touches q (holds masks) S d ≡ true
+
+-- the room that start had has come back along the labels to a block that was on no disk
+pub record Pulled (n q start : ℕ) (masks loads at′ loads′ : List ℕ) : Type 0 where
+  pub placed : Placed n q masks at′ loads′
+  pub shifted : (e : ℕ) → e ≤ n → getD loads′ e 0 + bit (eqb e n) ≡ getD loads e 0 + bit (eqb e start)

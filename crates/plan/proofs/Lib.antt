@@ -1,0 +1,10 @@
+pub mod Filling
+pub mod Spell
+pub mod Adding
+pub mod Bounds
+pub mod Checking
+pub mod Receiving
+pub mod Drafting
+pub mod Longest
+pub mod RoundTrip
+pub mod Unique

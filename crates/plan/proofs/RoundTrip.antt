@@ -1,0 +1,202 @@
+-- Both round trips of a plan sheet.
+--     sheet-read       reading a plan's bytes gives the plan
+--     sheet-exact      the bytes of an accepted sheet are those of its plan, which is in range
+--     read-written     reading what `write` wrote gives the same values
+--     write-read       writing what `read` accepted gives the same bytes
+use mathlib.Core.Path.{_≡_, refl, sym, ap, _∙_, subst}
+use mathlib.Core.List.{List, _∷_, _++_, append-assoc}
+use Prim.Native.Nat.{ℕ, zero, suc, _+_, _-_, _^_, _≤_, _<_}
+use native.Mathlib.Omega.{arith}
+use lib.Dec.{leb}
+use lib.ListN.{length, take, drop}
+use lib.Seq.{take-at}
+use Rattle.number.specs.Bytes.{Bytes}
+use Rattle.number.specs.Encode.{encode}
+use Rattle.field.specs.Sheet.{got, refused, _>>=_, _>>_, pure, times}
+use Rattle.field.specs.Field.{exactly, tenancy, inside, climb}
+use Rattle.number.proofs.Choice.{pick-true, pick-false, either}
+use Rattle.field.specs.Put.{spellAll, paste}
+use Rattle.field.specs.declared.Written.the-variants.{Length}
+use Rattle.field.specs.Send.{Draft, sheet, toldWritten, answerTo, leftBy, Sent}
+use Rattle.field.proofs.Sheet.{Step, bind-got, after-got, pure-got}
+use Rattle.field.proofs.Read.{Reads, reads-bind, reads-then, reads-checked, reads-pure, reads-exactly, reads-tenancy, reads-inside, reads-whole}
+use Rattle.field.proofs.Spelt.{Spelt, spelt-join, spelt-whole, whole-got, exactly-spelt, tenancy-spelt, inside-spelt}
+use Rattle.field.proofs.Lists.{All, Rises, reads-times, reads-climb, times-spelt, climb-spelt}
+use Rattle.plan.specs.Plan.{Plan, ifAny, timeOf, sizeOf, openingOf, listsOf, planFields, planSheet}
+use Rattle.plan.specs.Range.{InRange}
+use Rattle.plan.specs.Receive.{over, Received}
+use Rattle.plan.specs.Draft.{planNumbers, planBytes, planDraft}
+use Rattle.plan.specs.declared.Head.{Head}
+use Rattle.plan.specs.declared.Answer.the-variants.{Accepted}
+use Rattle.plan.proofs.Drafting.{draft}
+use Rattle.plan.proofs.Receiving.{Took, took}
+use Rattle.plan.proofs.Spell.{spell-append}
+
+-- a bound for no blocks is no larger
+any-most : (q n : ℕ) → ifAny q n ≤ n
+unfolding ifAny
+any-most zero n = omega arith
+any-most (suc q) n = omega arith
+
+-- ---- the bytes, part by part
+
+openingBytes : ℕ → ℕ → List ℕ
+openingBytes unit t = encode 3 ++ (encode unit ++ encode t)
+
+listsBytes : Plan → List ℕ
+listsBytes p = spellAll encode (p .disks) ++ (encode (length (p .short)) ++ spellAll encode (p .short))
+
+module _ (unit t : ℕ) (p : Plan) where
+  bytes-parts : openingBytes unit t ++ (encode (length (p .disks)) ++ (encode (p .time) ++ listsBytes p)) ≡ planBytes unit t p
+  unfolding planBytes planNumbers spellAll openingBytes listsBytes
+  bytes-parts =
+      let e : spellAll encode (p .disks ++ (length (p .short) ∷ p .short)) ≡ listsBytes p = spell-append (p .disks) (length (p .short) ∷ p .short) in
+      simp append-assoc (sym (ap (λ (z : List ℕ). encode 3 ++ (encode unit ++ (encode t ++ (encode (length (p .disks)) ++ (encode (p .time) ++ z))))) e))
+
+  -- ---- reading after writing
+
+  module _ (u : unit < 2 ^ 32) (l : 0 < t) (h : t < 2 ^ 32) (r : InRange p) where
+    reads-opening : Reads (openingOf unit t) (openingBytes unit t) t
+    unfolding openingOf openingBytes
+    reads-opening = reads-then (reads-exactly 3 3 (omega arith)) (reads-then (reads-exactly unit 4 u) (reads-tenancy t l h))
+
+    reads-lists : Reads (listsOf (length (p .disks)) (p .time)) (listsBytes p) p
+    unfolding listsOf listsBytes sizeOf
+    reads-lists =
+        reads-bind _ (reads-times (inside 0 63) encode (λ d. d ≤ 63) (λ d k. reads-inside 0 63 d (omega arith) k (omega arith)) (p .disks) (r .disks))
+        (reads-bind _ (reads-inside (ifAny (length (p .disks)) 1) (length (p .disks)) (length (p .short)) (r .size-from) (r .size-to) (omega (arith, r .few, r .size-to)))
+        (reads-checked _ (reads-climb (length (p .disks) - 1) (omega (arith, r .few)) 0 (p .short) (r .blocks)) (reads-pure p)))
+
+    reads-plan : Reads (planFields unit t) (openingBytes unit t ++ (encode (length (p .disks)) ++ (encode (p .time) ++ listsBytes p))) p
+    unfolding planFields timeOf
+    reads-plan =
+        reads-then reads-opening
+        (reads-bind _ (reads-inside 0 1024 (length (p .disks)) (omega arith) (r .few) (omega (arith, r .few)))
+        (reads-bind _ (reads-inside (ifAny (length (p .disks)) 1) (ifAny (length (p .disks)) 1125000000) (p .time) (r .time-from) (r .time-to) (omega (arith, r .time-to, any-most (length (p .disks)) 1125000000)))
+        reads-lists))
+
+    pub sheet-read : planSheet unit t (planBytes unit t p) 0 ≡ got p (length (planBytes unit t p))
+    unfolding planSheet
+    sheet-read = reads-whole (subst (λ (z : List ℕ). Reads (planFields unit t) z p) bytes-parts reads-plan)
+
+-- ---- writing after reading
+
+module _ (s : List ℕ) (b : Bytes s) where
+  opening-spelt : (unit t at v e : ℕ) → openingOf unit t s at ≡ got v e → Spelt s at e (openingBytes unit t) × (0 < t)
+  unfolding openingOf openingBytes
+  opening-spelt unit t at v e h =
+      let k : Step (exactly 3 3 s at) (λ _ n. (exactly unit 4 >> tenancy t) s n) v e = after-got (exactly 3 3) s at v e (exactly unit 4 >> tenancy t) h in
+      let u : Step (exactly unit 4 s (k .mid)) (λ _ n. tenancy t s n) v e = after-got (exactly unit 4) s (k .mid) v e (tenancy t) (k .last) in
+      let k′ : Spelt s at (k .mid) (encode (k .found)) × (k .found ≡ 3) = exactly-spelt s at (k .found) (k .mid) b 3 3 (k .first) in
+      let u′ : Spelt s (k .mid) (u .mid) (encode (u .found)) × (u .found ≡ unit) = exactly-spelt s (k .mid) (u .found) (u .mid) b unit 4 (u .first) in
+      let t′ : Spelt s (u .mid) e (encode v) × (v ≡ t) × (0 < v) = tenancy-spelt s (u .mid) v e b t (u .last) in (
+        spelt-join (subst (λ (x : ℕ). Spelt s at (k .mid) (encode x)) (k′ .1) (k′ .0))
+            (spelt-join (subst (λ (x : ℕ). Spelt s (k .mid) (u .mid) (encode x)) (u′ .1) (u′ .0)) (subst (λ (x : ℕ). Spelt s (u .mid) e (encode x)) (t′ .1) (t′ .0))),
+        omega (arith, t′ .1, t′ .2),
+      )
+
+  -- what the lists of an accepted sheet are
+  record Lists (q r at : ℕ) (p : Plan) (e : ℕ) : Type 0 where
+    spelt : Spelt s at e (listsBytes p)
+    blocks : length (p .disks) ≡ q
+    time : p .time ≡ r
+    disks : All (λ d. d ≤ 63) (p .disks)
+    from : ifAny q 1 ≤ length (p .short)
+    to : length (p .short) ≤ q
+    members : Rises 0 (q - 1) (p .short)
+
+  lists-spelt : (q r at : ℕ) (p : Plan) (e : ℕ) → at ≤ length s → listsOf q r s at ≡ got p e → Lists q r at p e
+  unfolding listsOf sizeOf listsBytes
+  lists-spelt q r at p e l h =
+      let w : Step (times q (inside 0 63) s at) (λ ds n. (sizeOf q >>= λ m. climb m 0 (q - 1) >>= λ bs. pure (record { time = r; disks = ds; short = bs })) s n) p e = bind-got (times q (inside 0 63)) s at p e _ h in
+      let ds : List ℕ = w .found in
+      let x : Spelt s at (w .mid) (spellAll encode ds) × (length ds ≡ q) × All (λ d. d ≤ 63) ds = times-spelt (inside 0 63) encode (λ d. d ≤ 63) s (λ i d n k. (inside-spelt s i d n b 0 63 k .0, inside-spelt s i d n b 0 63 k .2)) q at ds (w .mid) l (w .first) in
+      let z : Step (sizeOf q s (w .mid)) (λ m n. (climb m 0 (q - 1) >>= λ bs. pure (record { time = r; disks = ds; short = bs })) s n) p e = bind-got (sizeOf q) s (w .mid) p e _ (w .last) in
+      let y : Spelt s (w .mid) (z .mid) (encode (z .found)) × (ifAny q 1 ≤ z .found) × (z .found ≤ q) = inside-spelt s (w .mid) (z .found) (z .mid) b (ifAny q 1) q (z .first) in
+      let c : Step (climb (z .found) 0 (q - 1) s (z .mid)) (λ bs n. pure (record { time = r; disks = ds; short = bs }) s n) p e = bind-got (climb (z .found) 0 (q - 1)) s (z .mid) p e _ (z .last) in
+      let bs : List ℕ = c .found in
+      let g : Spelt s (z .mid) (c .mid) (spellAll encode bs) × (length bs ≡ z .found) × Rises 0 (q - 1) bs = climb-spelt (q - 1) s b (z .found) 0 (z .mid) bs (c .mid) (y .0 .within) (c .first) in
+      let f : (record { time = r; disks = ds; short = bs } ≡ p) × (c .mid ≡ e) = pure-got (record { time = r; disks = ds; short = bs }) p s (c .mid) e (c .last) in
+      let m : Spelt s (w .mid) (z .mid) (encode (length bs)) = subst (λ (k : ℕ). Spelt s (w .mid) (z .mid) (encode k)) (sym (g .1)) (y .0) in
+      let found : Lists q r at (record { time = r; disks = ds; short = bs }) (c .mid) = record {
+        spelt = spelt-join (x .0) (spelt-join m (g .0));
+        blocks = x .1;
+        time = refl;
+        disks = x .2;
+        from = omega (arith, y .1, g .1);
+        to = omega (arith, y .2, g .1);
+        members = g .2;
+      } in
+      subst (λ (k : ℕ). Lists q r at p k) (f .1) (subst (λ (k : Plan). Lists q r at k (c .mid)) (f .0) found)
+
+  lists-range : (q r at : ℕ) (p : Plan) (e : ℕ) → Lists q r at p e → q ≤ 1024 → ifAny q 1 ≤ r → r ≤ ifAny q 1125000000 → InRange p
+  lists-range q r at p e x l f g = record {
+    few = rw (x .blocks) l;
+    time-from = rw (x .blocks, x .time) f;
+    time-to = rw (x .blocks, x .time) g;
+    disks = x .disks;
+    size-from = rw (x .blocks) (x .from);
+    size-to = rw (x .blocks) (x .to);
+    blocks = rw (x .blocks) (x .members);
+  }
+
+  pub sheet-exact : (unit t : ℕ) (p : Plan) (e : ℕ) → planSheet unit t s 0 ≡ got p e → (planBytes unit t p ≡ s) × InRange p × (0 < t)
+  unfolding planSheet planFields timeOf
+  sheet-exact unit t p e h =
+      let w : (planFields unit t s 0 ≡ got p e) × (e ≡ length s) = whole-got (planFields unit t) s p e h in
+      let o : Step (openingOf unit t s 0) (λ _ n. (inside 0 1024 >>= λ q. timeOf q >>= λ r. listsOf q r) s n) p e = after-got (openingOf unit t) s 0 p e _ (w .0) in
+      let o′ : Spelt s 0 (o .mid) (openingBytes unit t) × (0 < t) = opening-spelt unit t 0 (o .found) (o .mid) (o .first) in
+      let q : Step (inside 0 1024 s (o .mid)) (λ q n. (timeOf q >>= λ r. listsOf q r) s n) p e = bind-got (inside 0 1024) s (o .mid) p e _ (o .last) in
+      let q′ : Spelt s (o .mid) (q .mid) (encode (q .found)) × (0 ≤ q .found) × (q .found ≤ 1024) = inside-spelt s (o .mid) (q .found) (q .mid) b 0 1024 (q .first) in
+      let r : Step (timeOf (q .found) s (q .mid)) (λ r n. listsOf (q .found) r s n) p e = bind-got (timeOf (q .found)) s (q .mid) p e _ (q .last) in
+      let r′ : Spelt s (q .mid) (r .mid) (encode (r .found)) × (ifAny (q .found) 1 ≤ r .found) × (r .found ≤ ifAny (q .found) 1125000000) = inside-spelt s (q .mid) (r .found) (r .mid) b (ifAny (q .found) 1) (ifAny (q .found) 1125000000) (r .first) in
+      let x : Lists (q .found) (r .found) (r .mid) p e = lists-spelt (q .found) (r .found) (r .mid) p e (r′ .0 .within) (r .last) in
+      let a : Spelt s (o .mid) (q .mid) (encode (length (p .disks))) = subst (λ (k : ℕ). Spelt s (o .mid) (q .mid) (encode k)) (sym (x .blocks)) (q′ .0) in
+      let c : Spelt s (q .mid) (r .mid) (encode (p .time)) = subst (λ (k : ℕ). Spelt s (q .mid) (r .mid) (encode k)) (sym (x .time)) (r′ .0) in (
+        sym (spelt-whole s e _ (w .1) (spelt-join (o′ .0) (spelt-join a (spelt-join c (x .spelt)))) ∙ bytes-parts unit t p),
+        lists-range (q .found) (r .found) (r .mid) p e x (q′ .2) (r′ .1) (r′ .2),
+        o′ .1,
+      )
+
+-- ---- what the functions promise
+
+same-plan : (r r′ : ℕ) (ds ds′ bs bs′ : List ℕ) → r ≡ r′ → ds ≡ ds′ → bs ≡ bs′ → _≡_ {A = Plan} (record { time = r; disks = ds; short = bs }) (record { time = r′; disks = ds′; short = bs′ })
+same-plan r r′ ds ds′ bs bs′ x y z = cc
+
+-- the buffer begins with a sheet that was sent
+sent-bytes : (bs out : List ℕ) (n : ℕ) (after : List ℕ) → Sent (sheet bs) out (Length n) after → (n ≡ length bs) × (take n after ≡ bs)
+unfolding toldWritten answerTo leftBy paste
+sent-bytes bs out n after w =
+    either (leb (length bs) (length out))
+    (λ t.
+    let a : got tt n ≡ got tt (length bs) = w .answer ∙ pick-true _ _ t in
+    let k : n ≡ length bs = cc in
+    let x : after ≡ bs ++ drop (0 + length bs) out = w .held ∙ pick-true _ _ t in
+    (k, ap (take n) x ∙ take-at bs (drop (0 + length bs) out) n (sym k)))
+    (λ f.
+    let a : got tt n ≡ refused 11 = w .answer ∙ pick-false _ _ f in
+    absurd (let z : _≡_ {A = ℕ} 0 1 = cc in omega arith))
+
+-- the first entries of a list that was filled
+over-first : (xs list : List ℕ) (n : ℕ) → n ≡ length xs → take n (over xs list) ≡ xs
+unfolding over
+over-first xs list n h = take-at xs (drop (length xs) list) n (sym h)
+
+-- writing what `read` accepted gives the same bytes
+pub write-read : (unit t : ℕ) (s : List ℕ) → Bytes s → (disks short disks′ short′ : List ℕ) (h : Head) → Received (planSheet unit t s 0) (length s) disks short (Accepted h) disks′ short′ → planDraft unit t (record { time = h .time; disks = take (h .blocks) disks′; short = take (h .size) short′ }) ≡ sheet s
+write-read unit t s b disks short disks′ short′ h r =
+    let w : Took (planSheet unit t s 0) (length s) disks short h disks′ short′ = took (length s) disks short h disks′ short′ (planSheet unit t s 0) r in
+    let p : Plan = w .plan in
+    let x : (planBytes unit t p ≡ s) × InRange p × (0 < t) = sheet-exact s b unit t p (length s) (w .says) in
+    let ds : take (h .blocks) disks′ ≡ p .disks = ap (take (h .blocks)) (w .disks-left) ∙ over-first (p .disks) disks (h .blocks) (w .blocks) in
+    let bs : take (h .size) short′ ≡ p .short = ap (take (h .size)) (w .short-left) ∙ over-first (p .short) short (h .size) (w .size) in
+    let e : record { time = h .time; disks = take (h .blocks) disks′; short = take (h .size) short′ } ≡ p = same-plan (h .time) (p .time) (take (h .blocks) disks′) (p .disks) (take (h .size) short′) (p .short) (w .time) ds bs in
+    ap (planDraft unit t) e ∙ draft unit t p (x .1 .few) (omega (arith, x .1 .few, x .1 .size-to)) ∙ ap sheet (x .0)
+
+-- reading what `write` wrote gives the same values
+pub read-written : (unit t : ℕ) (p : Plan) → unit < 2 ^ 32 → 0 < t → t < 2 ^ 32 → InRange p → (out after : List ℕ) (n : ℕ) → Sent (planDraft unit t p) out (Length n) after → planSheet unit t (take n after) 0 ≡ got p n
+read-written unit t p u l k r out after n w =
+    let d : planDraft unit t p ≡ sheet (planBytes unit t p) = draft unit t p (r .few) (omega (arith, r .few, r .size-to)) in
+    let v : Sent (sheet (planBytes unit t p)) out (Length n) after = subst (λ (x : Draft). Sent x out (Length n) after) d w in
+    let x : (n ≡ length (planBytes unit t p)) × (take n after ≡ planBytes unit t p) = sent-bytes (planBytes unit t p) out n after v in
+    ap (λ (z : List ℕ). planSheet unit t z 0) (x .1) ∙ sheet-read unit t p u l k r ∙ ap (got p) (sym (x .0))

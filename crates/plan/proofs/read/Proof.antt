@@ -1,0 +1,42 @@
+-- `read`: a refused sheet leaves all as it was; of a whole one the frame says what the lists get.
+use borrow.Author.Needs.{needs}
+use Rattle.plan.proofs.Receiving.{found-few, found-refused, found-whole}
+use Rattle.plan.proofs.read.Statement.{statement}
+use Rattle.plan.proofs.read.Tie as tie
+
+check-requires : tie.Need-check-requires
+check-requires c κs = search needs
+
+enum-known-f : tie.Need-enum-known-f
+enum-known-f c = search needs
+
+fill-requires : tie.Need-fill-requires
+fill-requires c κs = found-few _ _ _ (c .before .before .before .before .before .check .ensures) _ (c .before .before .before .f .given .1)
+
+enum-known-e : tie.Need-enum-known-e
+enum-known-e c = search needs
+
+same-length : tie.Need-same-length
+same-length c = search needs
+
+same-length-2 : tie.Need-same-length-2
+same-length-2 c = search needs
+
+returns : tie.Need-returns
+returns c = found-whole _ _ _ _ _ _ _ _ _ _ (c .before .before .before .before .before .before .before .before .before .before .check .ensures) (c .before .before .before .before .before .before .before .before .f .given .1) (c .before .before .before .before .fill .ensures)
+
+returns-2 : tie.Need-returns-2
+returns-2 c = found-refused _ _ _ (c .before .before .before .check .ensures) _ _ _ _ (c .before .e .given .1)
+
+pub read-spec : {M : Type 1} → statement M
+read-spec =
+    tie.close
+    (tie.spec
+    check-requires
+    enum-known-f
+    fill-requires
+    enum-known-e
+    same-length
+    same-length-2
+    returns
+    returns-2)

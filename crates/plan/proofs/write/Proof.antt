@@ -1,0 +1,60 @@
+-- `write`: counts above 1,024, a buffer that is too short, or four parts one behind another (`Adds`).
+use borrow.Author.Needs.{needs}
+use native.Mathlib.Omega.{arith}
+use Rattle.plan.proofs.Drafting.{many-disks, many-members, long-sent, sheet-sent}
+use Rattle.plan.proofs.Adding.{adds-put, adds-join}
+use Rattle.plan.proofs.write.Statement.{statement}
+use Rattle.plan.proofs.write.Tie as tie
+
+returns : tie.Need-returns
+returns c = many-disks _ _ _ _ (c .if1 .taken)
+
+returns-2 : tie.Need-returns-2
+returns-2 c = many-members _ _ _ _ (c .before .if1 .left) (c .if2 .taken)
+
+sheet-width-requires : tie.Need-sheet-width-requires
+sheet-width-requires c κs = search needs
+
+returns-3 : tie.Need-returns-3
+returns-3 c = long-sent _ _ _ _ (c .before .before .before .if1 .left) (c .before .before .if2 .left) (omega (arith, c .before .sheet-width .ensures))
+
+cast-put-head : tie.Need-cast-put-head
+cast-put-head c = search needs
+
+put-head-requires : tie.Need-put-head-requires
+put-head-requires c κs = search needs
+
+put-disks-requires : tie.Need-put-disks-requires
+put-disks-requires c κs = search needs
+
+cast-put : tie.Need-cast-put
+cast-put c = search needs
+
+put-requires : tie.Need-put-requires
+put-requires c κs = search needs
+
+put-short-requires : tie.Need-put-short-requires
+put-short-requires c κs = search needs
+
+same-length : tie.Need-same-length
+same-length c = search needs
+
+returns-4 : tie.Need-returns-4
+returns-4 c = sheet-sent _ _ _ _ (c .before .before .before .before .before .before .before .before .before .before .before .before .before .before .before .before .before .before .before .if1 .left) (c .before .before .before .before .before .before .before .before .before .before .before .before .before .before .before .before .before .before .if2 .left) (omega (arith, c .before .before .before .before .before .before .before .before .before .before .before .before .before .before .before .before .before .sheet-width .ensures, c .before .before .before .before .before .before .before .before .before .before .before .before .before .before .before .before .if3 .left)) (adds-join (adds-put (adds-join (c .before .before .before .before .before .before .before .before .before .before .before .before .before .before .put-head .ensures) (c .before .before .before .before .before .before .before .before .before .before .put-disks .ensures)) (c .before .before .before .before .before .before .put .ensures)) (c .before .before .put-short .ensures))
+
+pub write-spec : {M : Type 1} → statement M
+write-spec =
+    tie.close
+    (tie.spec
+    returns
+    returns-2
+    sheet-width-requires
+    returns-3
+    cast-put-head
+    put-head-requires
+    put-disks-requires
+    cast-put
+    put-requires
+    put-short-requires
+    same-length
+    returns-4)

@@ -1,0 +1,7 @@
+pub mod Plan
+pub mod Range
+pub mod Told
+pub mod Receive
+pub mod Draft
+pub mod Frame
+pub mod Adds

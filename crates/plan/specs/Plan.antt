@@ -1,0 +1,55 @@
+-- The plan sheet.
+--     Plan         a plan's values: its time, a disk for each block, and its short set
+--     timeOf, sizeOf          R and m, for Q blocks
+--     openingOf, listsOf      the fields before Q, and those behind R
+--     planFields              all fields in order
+--     planSheet    the sheet of a plan, for a unit and a tenancy
+use Prim.Native.Nat.{ℕ, zero, suc, _-_}
+use mathlib.Core.List.{List}
+use Rattle.field.specs.Sheet.{Parser, _>>=_, _>>_, pure, times}
+use Rattle.field.specs.Field.{exactly, tenancy, inside, climb, whole}
+
+pub record Plan : Type 0 where
+  pub time : ℕ
+  pub disks : List ℕ
+  pub short : List ℕ
+
+-- a bound for at least one block; for no blocks it is 0
+unfoldable pub ifAny : ℕ → ℕ → ℕ
+ifAny zero n = 0
+ifAny (suc q) n = n
+
+-- R is 1 to 1,125,000,000, and 0 exactly for Q = 0
+unfoldable pub timeOf : ℕ → Parser ℕ
+timeOf q = inside (ifAny q 1) (ifAny q 1125000000)
+
+-- m is 1 to Q, and 0 exactly for Q = 0
+unfoldable pub sizeOf : ℕ → Parser ℕ
+sizeOf q = inside (ifAny q 1) q
+
+-- kind 3, unit, tenancy
+unfoldable pub openingOf : ℕ → ℕ → Parser ℕ
+openingOf unit t = do
+  exactly 3 3
+  exactly unit 4
+  tenancy t
+
+-- a disk number for each block, short set size m, m block numbers, rising
+unfoldable pub listsOf : ℕ → ℕ → Parser Plan
+listsOf q r = do
+  ds ← times q (inside 0 63)
+  m ← sizeOf q
+  bs ← climb m 0 (q - 1)
+  pure (record { time = r; disks = ds; short = bs })
+
+-- kind 3, unit, tenancy, Q, R and the lists
+unfoldable pub planFields : ℕ → ℕ → Parser Plan
+planFields unit t = do
+  openingOf unit t
+  q ← inside 0 1024
+  r ← timeOf q
+  listsOf q r
+
+-- all fields, and then the end of the sheet
+unfoldable pub planSheet : ℕ → ℕ → Parser Plan
+planSheet unit t = whole (planFields unit t)

@@ -1,0 +1,51 @@
+-- What the plan reader answers, and what it leaves in the two lent lists.
+--     settle        what the sheet says, with 11 last of all
+--     heads         what is answered
+--     disksLeft, shortLeft     the lent lists afterwards
+--     Received      the three together
+use Prim.Native.Nat.{ℕ}
+use mathlib.Core.Bool.{Bool, _&&_}
+use mathlib.Core.Path.{_≡_}
+use mathlib.Core.List.{List, _++_}
+use lib.ListN.{length, drop}
+use lib.Dec.{leb}
+use Rattle.number.specs.Choice.{pick}
+use Rattle.field.specs.Sheet.{Out, got, refused}
+use Rattle.plan.specs.declared.Head.{Head}
+use Rattle.plan.specs.declared.Answer.{Answer}
+use Rattle.plan.specs.Plan.{Plan}
+use Rattle.plan.specs.Told.{toldPlan}
+
+-- whether both lists have room for a plan
+unfoldable pub roomFor : Plan → List ℕ → List ℕ → Bool
+roomFor p disks short = leb (length (p .disks)) (length disks) && leb (length (p .short)) (length short)
+
+-- an accepted sheet is refused with 11 where either list is too short
+unfoldable pub settle : Out Plan → List ℕ → List ℕ → Out Plan
+settle (got p e) disks short = pick (roomFor p disks short) (got p e) (refused 11)
+settle (refused n) disks short = refused n
+
+-- Q, R and m
+unfoldable pub heads : Out Plan → Out Head
+heads (got p e) = got (record { blocks = length (p .disks); time = p .time; size = length (p .short) }) e
+heads (refused n) = refused n
+
+-- these entries first; the entries beyond them are as they were
+unfoldable pub over : List ℕ → List ℕ → List ℕ
+over xs list = xs ++ drop (length xs) list
+
+-- the list of disks afterwards: on refusal as it was
+unfoldable pub disksLeft : Out Plan → List ℕ → List ℕ
+disksLeft (got p e) list = over (p .disks) list
+disksLeft (refused n) list = list
+
+-- the list of the short set afterwards: on refusal as it was
+unfoldable pub shortLeft : Out Plan → List ℕ → List ℕ
+shortLeft (got p e) list = over (p .short) list
+shortLeft (refused n) list = list
+
+-- what the sheet says, for lists that held these entries: the answer, and what the lists then hold
+pub record Received (sheet : Out Plan) (bytes : ℕ) (disks short : List ℕ) (r : Answer) (disks′ short′ : List ℕ) : Type 0 where
+  pub answer : toldPlan bytes r ≡ heads (settle sheet disks short)
+  pub blocks : disks′ ≡ disksLeft (settle sheet disks short) disks
+  pub members : short′ ≡ shortLeft (settle sheet disks short) short

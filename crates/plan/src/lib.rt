@@ -1,0 +1,314 @@
+// The plan sheet: read into two lent lists, written from what a planner found.
+use field::Field;
+use field::Refusal;
+use field::Written;
+ghost use mathlib.Core.Path.{_≡_};
+ghost use mathlib.Core.List.{[], _∷_};
+ghost use Prim.Native.Nat.{ℕ, _-_, _≤_, _<_};
+ghost use lib.ListN.{length};
+ghost use Rattle.number.specs.Encode.{encode};
+ghost use Rattle.field.specs.Sheet.{got, times};
+ghost use Rattle.field.specs.Field.{inside, climb, whole};
+ghost use Rattle.field.specs.Put.{spellAll};
+ghost use Rattle.field.specs.Send.{Sent};
+ghost use Rattle.field.specs.Told.{told};
+ghost use Rattle.plan.specs.Plan.{Plan, ifAny, openingOf, listsOf, planSheet};
+ghost use Rattle.plan.specs.Receive.{Received};
+ghost use Rattle.plan.specs.Draft.{planBytes, planDraft};
+ghost use Rattle.plan.specs.Frame.{ended, Filled, Framed, Checked};
+ghost use Rattle.plan.specs.Adds.{Adds};
+
+// What an accepted plan sheet says, beside its two lists.
+pub struct Head {
+    // The number of blocks, Q.
+    pub blocks: usize,
+    // The plan's time, R.
+    pub time: u32,
+    // The size of the short set, m.
+    pub size: usize,
+}
+
+// What reading a plan sheet answers.
+pub enum Answer {
+    Accepted(Head),
+    Refused(Refusal),
+}
+
+// A plan sheet that was read to its end: its counts and time, and where its lists begin.
+struct Frame {
+    blocks: u32,
+    time: u32,
+    size: u32,
+    disks: usize,
+    short: usize,
+}
+
+// What reading a sheet to its end finds.
+enum Found {
+    Whole(Frame),
+    Refused(Refusal),
+}
+
+// The number for at least one block; for none it is 0.
+fn if_any(q: u32, n: u32) -> u32
+    ensures { λ r. ⌜ r ≡ ifAny q n ⌝ }
+{
+    if q == 0 { 0 } else { n }
+}
+
+// The last of q block numbers.
+fn last(q: u32) -> u32
+    ensures { λ r. ⌜ r ≡ q - 1 ⌝ }
+{
+    if q == 0 { 0 } else { q - 1 }
+}
+
+// Kind, unit and tenancy.
+fn opening(s: &[u8], unit: u32, tenancy: u32) -> Field
+    ensures { λ r. ⌜ told r ≡ openingOf unit tenancy (now (s .entry)) 0 ⌝ }
+{
+    match field::exact(s, 0, 3, Refusal::Kind) {
+        Field::Got(_, at) => match field::exact(s, at, unit, Refusal::Unit) {
+            Field::Got(_, next) => field::tenant(s, next, tenancy),
+            Field::Refused(e) => Field::Refused(e),
+        },
+        Field::Refused(e) => Field::Refused(e),
+    }
+}
+
+// The disks of q blocks, put at the start of a list.
+fn read_disks(s: &[u8], at: usize, q: u32, out: &mut [u8]) -> Field
+    requires { ⌜ q ≤ length (now out) ⌝ }
+    ensures { λ r. ⌜ Filled (times q (inside 0 63) (now (s .entry)) at) (now (out .entry)) r (now (out .exit)) ⌝ }
+{
+    let n = q as usize;
+    let mut p = at;
+    let mut i: usize = 0;
+    while i < n {
+        match field::ranged(s, p, 0, 63) {
+            Field::Got(v, next) => {
+                out[i] = v as u8;
+                p = next;
+            }
+            Field::Refused(e) => return Field::Refused(e),
+        }
+        i += 1;
+    }
+    Field::Got(0, p)
+}
+
+// The m rising block numbers up to the last one, put at the start of a list.
+fn read_short(s: &[u8], at: usize, m: u32, high: u32, out: &mut [u16]) -> Field
+    requires { ⌜ (m ≤ length (now out)) × (high < 1024) ⌝ }
+    ensures { λ r. ⌜ Filled (climb m 0 high (now (s .entry)) at) (now (out .entry)) r (now (out .exit)) ⌝ }
+{
+    let n = m as usize;
+    let mut p = at;
+    let mut floor: u32 = 0;
+    let mut i: usize = 0;
+    while i < n {
+        match field::risen(s, p, floor, high) {
+            Field::Got(v, next) => {
+                out[i] = v as u16;
+                p = next;
+                floor = v + 1;
+            }
+            Field::Refused(why) => return Field::Refused(why),
+        }
+        i += 1;
+    }
+    Field::Got(0, p)
+}
+
+// The short set's blocks, and then the end of the sheet.
+fn short_last(s: &[u8], at: usize, m: u32, q: u32) -> Field
+    requires { ⌜ (m ≤ q) × (q ≤ 1024) ⌝ }
+    ensures { λ r. ⌜ told r ≡ ended (whole (climb m 0 (q - 1)) (now (s .entry)) at) ⌝ }
+{
+    let mut scratch = [0u16; 1024];
+    match read_short(s, at, m, last(q), &mut scratch) {
+        Field::Got(_, next) => field::finish(s, next),
+        Field::Refused(e) => Field::Refused(e),
+    }
+}
+
+// What follows the time: the disks, and the short set with its size.
+fn lists(s: &[u8], at: usize, q: u32, time: u32) -> Found
+    requires { ⌜ q ≤ 1024 ⌝ }
+    ensures { λ r. ⌜ Checked (now (s .entry)) (whole (listsOf q time) (now (s .entry)) at) r ⌝ }
+{
+    let mut scratch = [0u8; 1024];
+    match read_disks(s, at, q, &mut scratch) {
+        Field::Got(_, p) => match field::ranged(s, p, if_any(q, 1), q) {
+            Field::Got(m, next) => match short_last(s, next, m, q) {
+                Field::Got(_, _) => Found::Whole(Frame {
+                    blocks: q,
+                    time: time,
+                    size: m,
+                    disks: at,
+                    short: next,
+                }),
+                Field::Refused(e) => Found::Refused(e),
+            },
+            Field::Refused(e) => Found::Refused(e),
+        },
+        Field::Refused(e) => Found::Refused(e),
+    }
+}
+
+// The whole sheet.
+fn check(s: &[u8], unit: u32, tenancy: u32) -> Found
+    ensures { λ r. ⌜ Checked (now (s .entry)) (planSheet unit tenancy (now (s .entry)) 0) r ⌝ }
+{
+    match opening(s, unit, tenancy) {
+        Field::Got(_, at) => match field::ranged(s, at, 0, 1024) {
+            Field::Got(q, p) => match field::ranged(s, p, if_any(q, 1), if_any(q, 1_125_000_000)) {
+                Field::Got(r, next) => lists(s, next, q, r),
+                Field::Refused(e) => Found::Refused(e),
+            },
+            Field::Refused(e) => Found::Refused(e),
+        },
+        Field::Refused(e) => Found::Refused(e),
+    }
+}
+
+// Fills the lent lists from a sheet that was read to its end, or refuses with 11.
+fn fill(s: &[u8], f: Frame, disks: &mut [u8], short: &mut [u16]) -> Answer
+    requires { ⌜ f .blocks ≤ 1024 ⌝ }
+    ensures { λ r. ⌜ ((p : Plan) (e : ℕ) → Framed (now (s .entry)) p f → Received (got p e) e (now (disks .entry)) (now (short .entry)) r (now (disks .exit)) (now (short .exit))) ⌝ }
+{
+    let q = f.blocks;
+    let m = f.size;
+    let from = f.disks;
+    let at = f.short;
+    if disks.len() < q as usize {
+        return Answer::Refused(Refusal::NoRoom);
+    }
+    if short.len() < m as usize {
+        return Answer::Refused(Refusal::NoRoom);
+    }
+    // Both lists were read once already, so neither is refused here.
+    read_disks(s, from, q, disks);
+    read_short(s, at, m, last(q), short);
+    Answer::Accepted(Head {
+        blocks: q as usize,
+        time: f.time,
+        size: m as usize,
+    })
+}
+
+// Reads a plan sheet for a unit and a tenancy. The sheet is read to its end before a lent list is touched.
+pub fn read(s: &[u8], unit: u32, tenancy: u32, disks: &mut [u8], short: &mut [u16]) -> Answer
+    ensures { λ r. ⌜ Received (planSheet unit tenancy (now (s .entry)) 0) (length (now (s .entry))) (now (disks .entry)) (now (short .entry)) r (now (disks .exit)) (now (short .exit)) ⌝ }
+{
+    match check(s, unit, tenancy) {
+        Found::Whole(f) => fill(s, f, disks, short),
+        Found::Refused(e) => Answer::Refused(e),
+    }
+}
+
+// The bytes of the disks' numbers.
+fn disks_width(xs: &[u8]) -> usize
+    requires { ⌜ length (now xs) ≤ 1024 ⌝ }
+    ensures { λ r. ⌜ r ≡ length (spellAll encode (now (xs .entry))) ⌝ }
+{
+    let mut n: usize = 0;
+    let mut i: usize = 0;
+    while i < xs.len() {
+        n += number::width(xs[i] as u32);
+        i += 1;
+    }
+    n
+}
+
+// The bytes of the short set's numbers.
+fn short_width(xs: &[u16]) -> usize
+    requires { ⌜ length (now xs) ≤ 1024 ⌝ }
+    ensures { λ r. ⌜ r ≡ length (spellAll encode (now (xs .entry))) ⌝ }
+{
+    let mut n: usize = 0;
+    let mut i: usize = 0;
+    while i < xs.len() {
+        n += number::width(xs[i] as u32);
+        i += 1;
+    }
+    n
+}
+
+// Writes the disks one after another and answers the place after them.
+fn put_disks(xs: &[u8], out: &mut [u8], at: usize) -> usize
+    ensures { λ r. ⌜ Adds (now (xs .entry)) (now (out .entry)) at (now (out .exit)) r ⌝ }
+{
+    let mut p = at;
+    let mut i: usize = 0;
+    while i < xs.len() {
+        p = field::put(xs[i] as u32, out, p);
+        i += 1;
+    }
+    p
+}
+
+// Writes the short set's blocks one after another and answers the place after them.
+fn put_short(xs: &[u16], out: &mut [u8], at: usize) -> usize
+    ensures { λ r. ⌜ Adds (now (xs .entry)) (now (out .entry)) at (now (out .exit)) r ⌝ }
+{
+    let mut p = at;
+    let mut i: usize = 0;
+    while i < xs.len() {
+        p = field::put(xs[i] as u32, out, p);
+        i += 1;
+    }
+    p
+}
+
+// The fields before the disks.
+fn put_head(unit: u32, tenancy: u32, q: u32, time: u32, out: &mut [u8]) -> usize
+    ensures { λ r. ⌜ Adds (3 ∷ unit ∷ tenancy ∷ q ∷ time ∷ []) (now (out .entry)) 0 (now (out .exit)) r ⌝ }
+{
+    let a = field::put(3, out, 0);
+    let b = field::put(unit, out, a);
+    let c = field::put(tenancy, out, b);
+    let d = field::put(q, out, c);
+    field::put(time, out, d)
+}
+
+// The length of the sheet.
+fn sheet_width(unit: u32, tenancy: u32, time: u32, disks: &[u8], short: &[u16]) -> usize
+    requires { ⌜ (length (now disks) ≤ 1024) × (length (now short) ≤ 1024) ⌝ }
+    ensures { λ r. ⌜ r ≡ length (planBytes unit tenancy (record { time = time; disks = now (disks .entry); short = now (short .entry) })) ⌝ }
+{
+    let q = disks.len() as u32;
+    let m = short.len() as u32;
+    let head = number::width(3)
+        + number::width(unit)
+        + number::width(tenancy)
+        + number::width(q)
+        + number::width(time);
+    head + disks_width(disks) + number::width(m) + short_width(short)
+}
+
+// Writes the plan sheet of what is given. The length is found first, so that a refusal has changed nothing.
+pub fn write(
+    unit: u32,
+    tenancy: u32,
+    time: u32,
+    disks: &[u8],
+    short: &[u16],
+    out: &mut [u8],
+) -> Written
+    ensures { λ r. ⌜ Sent (planDraft unit tenancy (record { time = time; disks = now (disks .entry); short = now (short .entry) })) (now (out .entry)) r (now (out .exit)) ⌝ }
+{
+    if 1024 < disks.len() {
+        return Written::Refused(Refusal::Range);
+    }
+    if 1024 < short.len() {
+        return Written::Refused(Refusal::Range);
+    }
+    if out.len() < sheet_width(unit, tenancy, time, disks, short) {
+        return Written::Refused(Refusal::NoRoom);
+    }
+    let a = put_head(unit, tenancy, disks.len() as u32, time, out);
+    let b = put_disks(disks, out, a);
+    let c = field::put(short.len() as u32, out, b);
+    Written::Length(put_short(short, out, c))
+}

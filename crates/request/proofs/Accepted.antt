@@ -1,0 +1,147 @@
+-- What an accepted request says: for those who call the reader.
+--     climb-rises, times-all, block-sendable     what is known of values that were read, whatever the bytes
+--     Accepts, accepted                          what is known of the copies that are handed out
+--     accepted-at, accepted-beyond               the same of one place
+--     refused-sheet                              what a refusal says of the sheet
+use mathlib.Core.Path.{_≡_, refl, sym, ap, _∙_, subst}
+use mathlib.Core.List.{List, [], _∷_, _++_}
+use Prim.Native.Nat.{ℕ, zero, suc, _+_, _-_, _^_, _≤_, _<_}
+use native.Mathlib.Omega.{arith}
+use borrow.Author.Tests.{ltb-true, ltb-false}
+use lib.Dec.{ltb}
+use lib.ListN.{length, take, drop, getD, replicate}
+use lib.Seq.{take-at, drop-at, getD-take}
+use Rattle.number.proofs.Choice.{either}
+use Rattle.mask.specs.Count.{members}
+use Rattle.mask.proofs.Members.{members-zero}
+use Rattle.field.specs.declared.Refusal.{Refusal}
+use Rattle.field.specs.Refusal.{numberOf}
+use Rattle.field.specs.Sheet.{Out, got, refused, Parser, _>>=_, _>>_, pure, times}
+use Rattle.field.specs.Field.{rising, climb}
+use Rattle.field.proofs.Sheet.{Step, bind-got, pure-got}
+use Rattle.field.proofs.Lists.{All, Rises}
+use Rattle.request.specs.declared.Answer.the-variants.{Accepted, Refused}
+use Rattle.request.specs.declared.Request.{Request}
+use Rattle.request.specs.Disks.{maskOf, disksOf}
+use Rattle.request.specs.Request.{lastDisk, block, requestSheet}
+use Rattle.request.specs.Told.{toldAnswer, counted, padded, Answered}
+use Rattle.request.proofs.Disks.{disks-mask, mask-under}
+use Rattle.request.proofs.Writing.{disks-count}
+use Rattle.request.proofs.Reading.{last-few, last-all, last-le, rising-within, Listed, block-got, Whole, sheet-got}
+use Rattle.request.proofs.Drafting.{Sendable}
+
+-- ---- whatever the bytes
+
+-- the last disk of N, where N is in its range
+pub last-of : (n : ℕ) → (n ≡ 0 → ⊥) → n ≤ 64 → lastDisk n + 1 ≡ n
+last-of n z l =
+    either (ltb n 64)
+    (λ t. omega (arith, last-few n (ltb-true n 64 t), z))
+    (λ f. let e : 64 ≤ n = ltb-false n 64 f in omega (arith, last-all n e))
+
+-- as many disks as bits
+pub count-of : (m : ℕ) → length (disksOf m) ≡ members 64 m
+unfolding disksOf
+count-of m = disks-count m 64
+
+pub climb-rises : (high : ℕ) (s : List ℕ) (n floor at : ℕ) (vs : List ℕ) (e : ℕ) → climb n floor high s at ≡ got vs e → (length vs ≡ n) × Rises floor high vs
+unfolding climb Rises
+climb-rises high s zero floor at vs e h =
+    let q : ([] ≡ vs) × (at ≡ e) = pure-got [] vs s at e h in
+    subst (λ (z : List ℕ). (length z ≡ 0) × Rises floor high z) (q .0) (refl, tt)
+climb-rises high s (suc n) floor at vs e h =
+    let w : Step (rising floor high s at) (λ v m. (climb n (v + 1) high >>= λ rest. pure (v ∷ rest)) s m) vs e = bind-got (rising floor high) s at vs e (λ v. climb n (v + 1) high >>= λ rest. pure (v ∷ rest)) h in
+    let u : Step (climb n (w .found + 1) high s (w .mid)) (λ rest m. pure (w .found ∷ rest) s m) vs e = bind-got (climb n (w .found + 1) high) s (w .mid) vs e (λ rest. pure (w .found ∷ rest)) (w .last) in
+    let q : (w .found ∷ u .found ≡ vs) × (u .mid ≡ e) = pure-got (w .found ∷ u .found) vs s (u .mid) e (u .last) in
+    let f : (w .found ≤ high) × (floor ≤ w .found) = rising-within floor high s at (w .found) (w .mid) (w .first) in
+    let g : (length (u .found) ≡ n) × Rises (w .found + 1) high (u .found) = climb-rises high s n (w .found + 1) (w .mid) (u .found) (u .mid) (u .first) in
+    subst (λ (z : List ℕ). (length z ≡ suc n) × Rises floor high z) (q .0) (ap suc (g .0), (f .1, f .0, g .1))
+
+pub times-all : {A : Type 0} (p : Parser A) (P : A → Type 0) (s : List ℕ) → ((at : ℕ) (a : A) (e : ℕ) → p s at ≡ got a e → P a) → (n at : ℕ) (vs : List A) (e : ℕ) → times n p s at ≡ got vs e → (length vs ≡ n) × All P vs
+unfolding times All
+times-all p P s one zero at vs e h =
+    let q : ([] ≡ vs) × (at ≡ e) = pure-got [] vs s at e h in
+    subst (λ z. (length z ≡ 0) × All P z) (q .0) (refl, tt)
+times-all p P s one (suc n) at vs e h =
+    let w : Step (p s at) (λ a m. (times n p >>= λ rest. pure (a ∷ rest)) s m) vs e = bind-got p s at vs e (λ a. times n p >>= λ rest. pure (a ∷ rest)) h in
+    let u : Step (times n p s (w .mid)) (λ rest m. pure (w .found ∷ rest) s m) vs e = bind-got (times n p) s (w .mid) vs e (λ rest. pure (w .found ∷ rest)) (w .last) in
+    let q : (w .found ∷ u .found ≡ vs) × (u .mid ≡ e) = pure-got (w .found ∷ u .found) vs s (u .mid) e (u .last) in
+    let g : (length (u .found) ≡ n) × All P (u .found) = times-all p P s one n (w .mid) (u .found) (u .mid) (u .first) in
+    subst (λ z. (length z ≡ suc n) × All P z) (q .0) (ap suc (g .0), (one at (w .found) (w .mid) (w .first), g .1))
+
+-- the copies of a rising list can be sent
+sendable : (n : ℕ) → (n ≡ 0 → ⊥) → n ≤ 64 → (k : ℕ) (ds : List ℕ) → Rises 0 (lastDisk n) ds → length ds ≡ k → (k ≡ 0 → ⊥) → k ≤ 8 → Sendable n (maskOf ds)
+sendable n known within k ds r e some few =
+    let same : disksOf (maskOf ds) ≡ ds = disks-mask (lastDisk n) ds (last-le n) r in
+    let count : members 64 (maskOf ds) ≡ k = sym (count-of (maskOf ds)) ∙ ap length same ∙ e in
+    record {
+      some = λ z. some (sym count ∙ ap (members 64) z ∙ members-zero 64);
+      few = omega (arith, count);
+      under = subst (λ (j : ℕ). maskOf ds < 2 ^ j) (last-of n known within) (omega (arith, mask-under 0 (lastDisk n) 0 ds r (omega arith) (omega arith)));
+    }
+
+pub block-sendable : (n : ℕ) → (n ≡ 0 → ⊥) → n ≤ 64 → (s : List ℕ) (at m e : ℕ) → block (lastDisk n) s at ≡ got m e → Sendable n m
+block-sendable n known within s at m e h =
+    let w : Listed (lastDisk n) s at m e = block-got (lastDisk n) s at m e h in
+    let r : (length (w .disks) ≡ w .count) × Rises 0 (lastDisk n) (w .disks) = climb-rises (lastDisk n) s (w .count) 0 (w .mid) (w .disks) e (w .rest) in
+    subst (Sendable n) (w .sum) (sendable n known within (w .count) (w .disks) (r .1) (r .0) (w .some) (w .few))
+
+-- ---- the copies that are handed out
+
+pub record Accepts (unit t n : ℕ) (s : List ℕ) (q : ℕ) (copies : List ℕ) : Type 0 where
+  pub sheet : requestSheet unit t n s 0 ≡ got (take q copies) (length s)
+  pub known : 0 < n
+  pub small : q ≤ 1024
+  pub count : length (take q copies) ≡ q
+  pub blocks : All (Sendable n) (take q copies)
+  pub beyond : drop q copies ≡ replicate (1024 - q) 0
+
+-- an accepted sheet, as the definition has it
+sheet-blocks : (unit t n : ℕ) (s ms : List ℕ) (e : ℕ) → n ≤ 64 → requestSheet unit t n s 0 ≡ got ms e → (0 < n) × (length ms ≤ 1024) × All (Sendable n) ms
+sheet-blocks unit t n s ms e l h =
+    let w : Whole unit t n s ms e = sheet-got unit t n s ms e h in
+    let known : 0 < n = ltb-true 0 n (w .headed .known) in
+    let j : (length ms ≡ w .count) × All (Sendable n) ms = times-all (block (lastDisk n)) (Sendable n) s (block-sendable n (λ z. omega arith) l s) (w .count) (w .mid) ms e (w .rest) in
+    (known, omega (arith, j .0, w .small), j .1)
+
+-- by cases on what the definition says
+counted-got : (o : Out (List ℕ)) (len q : ℕ) → got q len ≡ counted o → (ms : List ℕ) × (o ≡ got ms len) × (length ms ≡ q)
+unfolding counted
+counted-got (got ms e) len q h = (ms, cc, cc)
+counted-got (refused n) len q h = absurd (let z : _≡_ {A = ℕ} 0 1 = cc in omega arith)
+
+counted-refused : (o : Out (List ℕ)) (n : ℕ) → refused n ≡ counted o → o ≡ refused n
+unfolding counted
+counted-refused (got ms e) n h = absurd (let z : _≡_ {A = ℕ} 0 1 = cc in omega arith)
+counted-refused (refused m) n h = cc
+
+pub accepted : (unit t n : ℕ) (s : List ℕ) (q : ℕ) (r : Request) → n ≤ 64 → Answered (length s) (requestSheet unit t n s 0) r → r .answer ≡ Accepted q → Accepts unit t n s q (r .copies)
+unfolding toldAnswer padded
+accepted unit t n s q r l a h =
+    let w : (ms : List ℕ) × (requestSheet unit t n s 0 ≡ got ms (length s)) × (length ms ≡ q) = counted-got (requestSheet unit t n s 0) (length s) q (sym (ap (toldAnswer (length s)) h) ∙ a .told) in
+    let c : r .copies ≡ w .0 ++ replicate (1024 - length (w .0)) 0 = a .held ∙ ap padded (w .1) in
+    let front : take q (r .copies) ≡ w .0 = ap (take q) c ∙ take-at (w .0) (replicate (1024 - length (w .0)) 0) q (w .2) in
+    let b : (0 < n) × (length (w .0) ≤ 1024) × All (Sendable n) (w .0) = sheet-blocks unit t n s (w .0) (length s) l (w .1) in
+    record {
+      sheet = w .1 ∙ ap (λ (x : List ℕ). got x (length s)) (sym front);
+      known = b .0;
+      small = omega (arith, b .1, w .2);
+      count = ap length front ∙ w .2;
+      blocks = subst (All (Sendable n)) (sym front) (b .2);
+      beyond = ap (drop q) c ∙ drop-at (w .0) (replicate (1024 - length (w .0)) 0) q (w .2) ∙ ap (λ (k : ℕ). replicate (1024 - k) 0) (w .2);
+    }
+
+all-at : {A : Type 0} (P : A → Type 0) (vs : List A) (z : A) (i : ℕ) → All P vs → i < length vs → P (getD vs i z)
+unfolding All
+all-at P [] z i a l = absurd (omega arith)
+all-at P (v ∷ vs) z zero a l = a .0
+all-at P (v ∷ vs) z (suc i) a l = all-at P vs z i (a .1) (omega arith)
+
+-- each block has copies, at most eight, all below N
+pub accepted-at : {unit t n : ℕ} {s : List ℕ} {q : ℕ} {copies : List ℕ} → Accepts unit t n s q copies → (i : ℕ) → i < q → Sendable n (getD copies i 0)
+accepted-at {unit} {t} {n} {s} {q} {copies} a i l =
+    subst (Sendable n) (getD-take q copies i 0 l) (all-at (Sendable n) (take q copies) 0 i (a .blocks) (omega (arith, a .count)))
+
+pub refused-sheet : (len : ℕ) (o : Out (List ℕ)) (r : Request) (e : Refusal) → Answered len o r → r .answer ≡ Refused e → o ≡ refused (numberOf e)
+unfolding toldAnswer
+refused-sheet len o r e a h = counted-refused o (numberOf e) (sym (ap (toldAnswer len) h) ∙ a .told)

@@ -1,0 +1,343 @@
+-- Laws of reading a request.
+--     last-few, last-all, last-le                          the last disk
+--     gather-done, gather-step, gather-stop                the disks of a block, one by one
+--     block-none, block-many, block-of, block-stops        a block, by its copy count
+--     heading-kind, -unit, -tenancy, -unset, -count        the fields before the blocks, by where they stop
+--     Filled, filled-start, -step, -stop, -extra, -done    the blocks, as a loop
+--     sheet-next, sheet-stops, answered-of, answered-sheet the whole sheet
+--     Listed, Headed, Whole, block-got, heading-got, sheet-got     what an accepted block, heading or sheet says of each part
+use mathlib.Core.Path.{_≡_, refl, sym, ap, _∙_, subst}
+use mathlib.Core.Bool.{Bool, true, not, true≢false}
+use mathlib.Core.List.{List, _∷_, _++_}
+use Prim.Native.Nat.{ℕ, suc, _+_, _-_, _^_, _≤_, _<_}
+use native.Mathlib.Omega.{arith}
+use borrow.Author.Tests.{eq-eqb, ne-eqb, lt-ltb, le-ltb, le-leb, lt-leb, leb-true, ltb-true}
+use lib.Dec.{eqb, leb, ltb}
+use lib.ListN.{length, replicate, take, drop, set, length-set, length-replicate, take-append-drop}
+use lib.Seq.{length-take-le, take-suc-set, drop-set-lt, drop-drop}
+use Rattle.number.proofs.Choice.{pick-true, pick-false, pick-elim}
+use Rattle.field.specs.declared.Refusal.{Refusal}
+use Rattle.field.specs.Refusal.{numberOf}
+use Rattle.field.specs.Sheet.{Out, got, refused, Parser, andThen, _>>=_, _>>_, pure, require, times}
+use Rattle.field.specs.Field.{number, exactly, tenancy, inside, rising, climb, end, whole}
+use Rattle.field.proofs.Sheet.{next, then, stops, halts, pass, fail, Step, bind-got, after-got, passed, pure-got}
+use Rattle.field.proofs.Lists.{prefix, times-start, times-step, times-stop, times-done}
+use Rattle.field.proofs.Spelt.{whole-got}
+use Rattle.request.specs.declared.Answer.the-variants.{Accepted}
+use Rattle.request.specs.declared.Copies.{Copies}
+use Rattle.request.specs.declared.Copies.the-variants.{Got}
+use Rattle.request.specs.declared.Copies.the-variants.{Refused as NoBlock}
+use Rattle.request.specs.declared.Request.{Request}
+use Rattle.request.specs.Disks.{maskOf}
+use Rattle.request.specs.Request.{lastDisk, block, heading, requestSheet}
+use Rattle.request.specs.Told.{toldCopies, toldAnswer, counted, padded, Answered, masked}
+
+-- ---- the last disk
+
+pub last-few : (n : ℕ) → n < 64 → lastDisk n ≡ n - 1
+unfolding lastDisk
+last-few n h = pick-true _ _ (lt-ltb n 64 h)
+
+pub last-all : (n : ℕ) → 64 ≤ n → lastDisk n ≡ 63
+unfolding lastDisk
+last-all n h = pick-false _ _ (le-ltb n 64 h)
+
+pub last-le : (n : ℕ) → lastDisk n ≤ 63
+unfolding lastDisk
+last-le n = pick-elim (λ (k : ℕ). k ≤ 63) _ _ _ (λ t. omega (arith, ltb-true n 64 t)) (λ f. omega arith)
+
+-- ---- the disks of a block
+
+-- a number that passed two tests
+two-tests : (f g : ℕ → Bool) (m n : ℕ) (s : List ℕ) (at v e : ℕ) → (number >>= λ x. require (f x) m >> (require (g x) n >> pure x)) s at ≡ got v e → (f v ≡ true) × (g v ≡ true)
+two-tests f g m n s at v e h =
+    let w : Step (number s at) (λ x k. (require (f x) m >> (require (g x) n >> pure x)) s k) v e = bind-got number s at v e (λ x. require (f x) m >> (require (g x) n >> pure x)) h in
+    let a : (f (w .found) ≡ true) × ((require (g (w .found)) n >> pure (w .found)) s (w .mid) ≡ got v e) = passed _ m _ s (w .mid) v e (w .last) in
+    let b : (g (w .found) ≡ true) × (pure (w .found) s (w .mid) ≡ got v e) = passed _ n _ s (w .mid) v e (a .1) in
+    let p : (w .found ≡ v) × (w .mid ≡ e) = pure-got _ _ s _ _ (b .1) in
+    (ap f (sym (p .0)) ∙ a .0, ap g (sym (p .0)) ∙ b .0)
+
+pub rising-within : (floor high : ℕ) (s : List ℕ) (at v e : ℕ) → rising floor high s at ≡ got v e → (v ≤ high) × (floor ≤ v)
+unfolding rising
+rising-within floor high s at v e h =
+    let w : (leb v high ≡ true) × (leb floor v ≡ true) = two-tests (λ x. leb x high) (λ x. leb floor x) 6 8 s at v e h in
+    (leb-true v high (w .0), leb-true floor v (w .1))
+
+inside-within : (low high : ℕ) (s : List ℕ) (at v e : ℕ) → inside low high s at ≡ got v e → v ≤ high
+unfolding inside
+inside-within low high s at v e h = leb-true v high (two-tests (λ x. leb low x) (λ x. leb x high) 6 6 s at v e h .1)
+
+-- one disk more among the others
+masked-more : (m v : ℕ) (o : Out (List ℕ)) → masked m (andThen o (λ vs n. got (v ∷ vs) n)) ≡ masked (m + 2 ^ v) o
+unfolding masked andThen maskOf
+masked-more m v (got vs n) = ap (λ (k : ℕ). got k n) (omega arith)
+masked-more m v (refused e) = refl
+
+masked-none : (o : Out (List ℕ)) → andThen o (λ ds n. got (maskOf ds) n) ≡ masked 0 o
+unfolding masked andThen
+masked-none (got ds n) = ap (λ (k : ℕ). got k n) (omega arith)
+masked-none (refused e) = refl
+
+listed : (m v : ℕ) (q : Parser (List ℕ)) (s : List ℕ) (at : ℕ) → masked m ((q >>= λ vs. pure (v ∷ vs)) s at) ≡ masked (m + 2 ^ v) (q s at)
+unfolding _>>=_ pure
+listed m v q s at = masked-more m v (q s at)
+
+summed : (q : Parser (List ℕ)) (s : List ℕ) (at : ℕ) → (q >>= λ ds. pure (maskOf ds)) s at ≡ masked 0 (q s at)
+unfolding _>>=_ pure
+summed q s at = masked-none (q s at)
+
+module _ (high : ℕ) (s : List ℕ) (left floor at m : ℕ) where
+  pub gather-done : left ≡ 0 → masked m (climb left floor high s at) ≡ got m at
+  unfolding climb masked maskOf pure
+  gather-done z = ap (λ (k : ℕ). masked m (climb k floor high s at)) z ∙ ap (λ (k : ℕ). got k at) (omega arith)
+
+  pub gather-step : {v e : ℕ} (r : ℕ) → r ≡ m + 2 ^ v → (left ≡ 0 → ⊥) → rising floor high s at ≡ got v e → masked m (climb left floor high s at) ≡ masked r (climb (left - 1) (v + 1) high s e)
+  unfolding climb
+  gather-step {v} {e} r q z h =
+      let k : left ≡ suc (left - 1) = omega arith in
+      ap (λ (k : ℕ). masked m (climb k floor high s at)) k ∙ ap (masked m) (next (rising floor high) _ s at h) ∙ listed m v (climb (left - 1) (v + 1) high) s e ∙ ap (λ (k : ℕ). masked k (climb (left - 1) (v + 1) high s e)) (sym q)
+
+  pub gather-stop : {n : ℕ} → (left ≡ 0 → ⊥) → rising floor high s at ≡ refused n → masked m (climb left floor high s at) ≡ refused n
+  unfolding climb masked
+  gather-stop {n} z h =
+      let k : left ≡ suc (left - 1) = omega arith in
+      ap (λ (k : ℕ). masked m (climb k floor high s at)) k ∙ ap (masked m) (stops (rising floor high) _ s at h)
+
+-- ---- a block
+
+-- what an answer told of a block
+pub copies-got : {f : Copies} {o : Out ℕ} {m e : ℕ} → toldCopies f ≡ o → f ≡ Got m e → o ≡ got m e
+unfolding toldCopies
+copies-got h q = sym h ∙ ap toldCopies q
+
+pub copies-refused : {f : Copies} {o : Out ℕ} {r : Refusal} → toldCopies f ≡ o → f ≡ NoBlock r → o ≡ refused (numberOf r)
+unfolding toldCopies
+copies-refused h q = sym h ∙ ap toldCopies q
+
+module _ (high : ℕ) (s : List ℕ) (at : ℕ) where
+  module _ (k e : ℕ) (h : number s at ≡ got k e) where
+    pub block-none : k ≡ 0 → block high s at ≡ refused 7
+    unfolding block
+    block-none z = next number _ s at h ∙ fail 7 _ s e (ap not (eq-eqb k 0 z))
+
+    pub block-many : (k ≡ 0 → ⊥) → 8 < k → block high s at ≡ refused 6
+    unfolding block
+    block-many z l = next number _ s at h ∙ pass 7 _ s e (ap not (ne-eqb k 0 z)) ∙ fail 6 _ s e (lt-leb k 8 l)
+
+    pub block-of : (k ≡ 0 → ⊥) → k ≤ 8 → block high s at ≡ masked 0 (climb k 0 high s e)
+    unfolding block
+    block-of z l = next number _ s at h ∙ pass 7 _ s e (ap not (ne-eqb k 0 z)) ∙ pass 6 _ s e (le-leb k 8 l) ∙ summed (climb k 0 high) s e
+
+  pub block-stops : {n : ℕ} → number s at ≡ refused n → block high s at ≡ refused n
+  unfolding block
+  block-stops h = stops number _ s at h
+
+-- what an accepted block says of each field
+pub record Listed (high : ℕ) (s : List ℕ) (at m e : ℕ) : Type 0 where
+  pub count : ℕ
+  pub mid : ℕ
+  pub disks : List ℕ
+  pub first : number s at ≡ got count mid
+  pub some : count ≡ 0 → ⊥
+  pub few : count ≤ 8
+  pub rest : climb count 0 high s mid ≡ got disks e
+  pub sum : maskOf disks ≡ m
+
+pub block-got : (high : ℕ) (s : List ℕ) (at m e : ℕ) → block high s at ≡ got m e → Listed high s at m e
+unfolding block
+block-got high s at m e h =
+    let rest : ℕ → Parser ℕ = λ k. climb k 0 high >>= λ ds. pure (maskOf ds) in
+    let f : Step (number s at) (λ k j. (require (not (eqb k 0)) 7 >> (require (leb k 8) 6 >> rest k)) s j) m e = bind-got number s at m e (λ k. require (not (eqb k 0)) 7 >> (require (leb k 8) 6 >> rest k)) h in
+    let g : (not (eqb (f .found) 0) ≡ true) × ((require (leb (f .found) 8) 6 >> rest (f .found)) s (f .mid) ≡ got m e) = passed _ 7 _ s (f .mid) m e (f .last) in
+    let i : (leb (f .found) 8 ≡ true) × (rest (f .found) s (f .mid) ≡ got m e) = passed _ 6 _ s (f .mid) m e (g .1) in
+    let j : Step (climb (f .found) 0 high s (f .mid)) (λ ds k. pure (maskOf ds) s k) m e = bind-got (climb (f .found) 0 high) s (f .mid) m e (λ ds. pure (maskOf ds)) (i .1) in
+    let p : (maskOf (j .found) ≡ m) × (j .mid ≡ e) = pure-got (maskOf (j .found)) m s (j .mid) e (j .last) in
+    record {
+      count = f .found;
+      mid = f .mid;
+      disks = j .found;
+      first = f .first;
+      some = λ z. true≢false (sym (g .0) ∙ ap not (eq-eqb (f .found) 0 z));
+      few = leb-true (f .found) 8 (i .0);
+      rest = j .first ∙ ap (got (j .found)) (p .1);
+      sum = p .0;
+    }
+
+-- ---- the fields before the blocks
+
+module _ (unit t n : ℕ) (s : List ℕ) where
+  pub heading-kind : {m : ℕ} → exactly 2 3 s 0 ≡ refused m → heading unit t n s 0 ≡ refused m
+  unfolding heading
+  heading-kind h = halts (exactly 2 3) _ s 0 h
+
+  module _ {k a : ℕ} (f : exactly 2 3 s 0 ≡ got k a) where
+    pub heading-unit : {m : ℕ} → exactly unit 4 s a ≡ refused m → heading unit t n s 0 ≡ refused m
+    unfolding heading
+    heading-unit h = then (exactly 2 3) _ s 0 f ∙ halts (exactly unit 4) _ s a h
+
+    module _ {u b : ℕ} (g : exactly unit 4 s a ≡ got u b) where
+      pub heading-tenancy : {m : ℕ} → tenancy t s b ≡ refused m → heading unit t n s 0 ≡ refused m
+      unfolding heading
+      heading-tenancy h = then (exactly 2 3) _ s 0 f ∙ then (exactly unit 4) _ s a g ∙ halts (tenancy t) _ s b h
+
+      module _ {w c : ℕ} (i : tenancy t s b ≡ got w c) where
+        pub heading-unset : n ≡ 0 → heading unit t n s 0 ≡ refused 10
+        unfolding heading
+        heading-unset z = then (exactly 2 3) _ s 0 f ∙ then (exactly unit 4) _ s a g ∙ then (tenancy t) _ s b i ∙ fail 10 _ s c (le-ltb 0 n (omega arith))
+
+        pub heading-count : (n ≡ 0 → ⊥) → heading unit t n s 0 ≡ inside 0 1024 s c
+        unfolding heading
+        heading-count z = then (exactly 2 3) _ s 0 f ∙ then (exactly unit 4) _ s a g ∙ then (tenancy t) _ s b i ∙ pass 10 _ s c (lt-ltb 0 n (omega arith))
+
+-- what an accepted heading says of each field
+pub record Headed (unit t n : ℕ) (s : List ℕ) (q e : ℕ) : Type 0 where
+  pub kind : ℕ
+  pub num : ℕ
+  pub lease : ℕ
+  pub a : ℕ
+  pub b : ℕ
+  pub c : ℕ
+  pub first : exactly 2 3 s 0 ≡ got kind a
+  pub second : exactly unit 4 s a ≡ got num b
+  pub third : tenancy t s b ≡ got lease c
+  pub known : ltb 0 n ≡ true
+  pub last : inside 0 1024 s c ≡ got q e
+
+pub heading-got : (unit t n : ℕ) (s : List ℕ) (q e : ℕ) → heading unit t n s 0 ≡ got q e → Headed unit t n s q e
+unfolding heading
+heading-got unit t n s q e h =
+    let f : Step (exactly 2 3 s 0) (λ _ m. (exactly unit 4 >> (tenancy t >> (require (ltb 0 n) 10 >> inside 0 1024))) s m) q e = after-got (exactly 2 3) s 0 q e (exactly unit 4 >> (tenancy t >> (require (ltb 0 n) 10 >> inside 0 1024))) h in
+    let g : Step (exactly unit 4 s (f .mid)) (λ _ m. (tenancy t >> (require (ltb 0 n) 10 >> inside 0 1024)) s m) q e = after-got (exactly unit 4) s (f .mid) q e (tenancy t >> (require (ltb 0 n) 10 >> inside 0 1024)) (f .last) in
+    let i : Step (tenancy t s (g .mid)) (λ _ m. (require (ltb 0 n) 10 >> inside 0 1024) s m) q e = after-got (tenancy t) s (g .mid) q e (require (ltb 0 n) 10 >> inside 0 1024) (g .last) in
+    let j : (ltb 0 n ≡ true) × (inside 0 1024 s (i .mid) ≡ got q e) = passed (ltb 0 n) 10 (inside 0 1024) s (i .mid) q e (i .last) in
+    record {
+      kind = f .found;
+      num = g .found;
+      lease = i .found;
+      a = f .mid;
+      b = g .mid;
+      c = i .mid;
+      first = f .first;
+      second = g .first;
+      third = i .first;
+      known = j .0;
+      last = j .1;
+    }
+
+-- Q is in its range
+pub heading-within : (unit t n : ℕ) (s : List ℕ) {q e : ℕ} → heading unit t n s 0 ≡ got q e → q ≤ 1024
+heading-within unit t n s {q} {e} h = let g : Headed unit t n s q e = heading-got unit t n s q e h in inside-within 0 1024 s (g .c) q e (g .last)
+
+-- ---- the blocks
+
+-- the first i blocks are read: their copies stand in the first i places, and the others are 0
+pub record Filled (q high : ℕ) (s : List ℕ) (at : ℕ) (copies : List ℕ) (p i : ℕ) : Type 0 where
+  pub within : i ≤ q
+  pub long : length copies ≡ 1024
+  pub rest : drop i copies ≡ replicate (1024 - i) 0
+  pub held : times q (block high) s at ≡ prefix (take i copies) (times (q - i) (block high) s p)
+
+-- one 0 less
+drop-zeros : (k : ℕ) → k < 1024 → drop {A = ℕ} 1 (replicate (1024 - k) 0) ≡ replicate (1024 - (k + 1)) 0
+drop-zeros k h = ap (λ (j : ℕ). drop {A = ℕ} 1 (replicate j 0)) {x = 1024 - k} {y = suc (1024 - (k + 1))} (omega arith)
+
+-- where the end of the sheet was found
+end-place : (s : List ℕ) (p v e : ℕ) → end s p ≡ got v e → e ≡ length s
+unfolding whole pure
+end-place s p v e h =
+    let fields : Parser Unit = λ _ _. got tt p in
+    whole-got fields s tt e (next fields _ s 0 refl ∙ then end _ s p h) .1
+
+module _ (q high : ℕ) (s : List ℕ) (at : ℕ) where
+  pub filled-start : Filled q high s at (replicate 1024 0) at 0
+  filled-start = record { within = omega arith; long = length-replicate {A = ℕ} 1024 0; rest = refl; held = times-start (block high) s q at }
+
+  module _ (copies : List ℕ) (p i : ℕ) (f : Filled q high s at copies p i) where
+    pub filled-step : {m e : ℕ} → i < q → q ≤ 1024 → block high s p ≡ got m e → Filled q high s at (set copies i m) e (i + 1)
+    filled-step {m} {e} l b h =
+        let room : i < length copies = omega (arith, f .long) in
+        record {
+          within = omega arith;
+          long = length-set copies i m ∙ f .long;
+          rest = drop-set-lt (i + 1) copies i m (omega arith) ∙ sym (drop-drop 1 i copies) ∙ ap (drop 1) (f .rest) ∙ drop-zeros i (omega arith);
+          held = f .held ∙ times-step (block high) s q i p (take i copies) l h
+              ∙ ap (λ (x : List ℕ). prefix x (times (q - (i + 1)) (block high) s e)) (sym (take-suc-set copies i m room) ∙ ap (λ (k : ℕ). take k (set copies i m)) {x = suc i} {y = i + 1} (omega arith));
+        }
+
+    pub filled-stop : {n : ℕ} → i < q → block high s p ≡ refused n → whole (times q (block high)) s at ≡ refused n
+    unfolding whole
+    filled-stop l h = stops (times q (block high)) _ s at (f .held ∙ times-stop (block high) s q i p (take i copies) l h)
+
+    all-read : q ≤ i → times q (block high) s at ≡ got (take q copies) p
+    all-read l =
+        let e : i ≡ q = omega (arith, f .within) in
+        f .held ∙ times-done (block high) s q i p (take i copies) l ∙ ap (λ (k : ℕ). got (take k copies) p) e
+
+    pub filled-extra : {n : ℕ} → q ≤ i → end s p ≡ refused n → whole (times q (block high)) s at ≡ refused n
+    unfolding whole
+    filled-extra l h = next (times q (block high)) _ s at (all-read l) ∙ halts end _ s p h
+
+    pub filled-done : {v e : ℕ} (r : Request) → r .answer ≡ Accepted q → r .copies ≡ copies → q ≤ i → q ≤ 1024 → end s p ≡ got v e → Answered (length s) (whole (times q (block high)) s at) r
+    unfolding whole pure toldAnswer counted padded
+    filled-done {v} {e} r a b l small h =
+        let n : length (take q copies) ≡ q = length-take-le q copies (omega (arith, f .long)) in
+        let o : whole (times q (block high)) s at ≡ got (take q copies) e = next (times q (block high)) _ s at (all-read l) ∙ then end _ s p h in
+        let i≡q : i ≡ q = omega (arith, f .within) in
+        record {
+          told = ap (toldAnswer (length s)) a ∙ ap (got q) (sym (end-place s p v e h)) ∙ ap (λ (k : ℕ). got k e) (sym n) ∙ sym (ap counted o);
+          held = b ∙ sym (take-append-drop q copies)
+              ∙ ap (λ (x : List ℕ). take q copies ++ x) (ap (λ (k : ℕ). drop k copies) (sym i≡q) ∙ f .rest ∙ ap (λ (k : ℕ). replicate (1024 - k) 0) (i≡q ∙ sym n))
+              ∙ sym (ap padded o);
+        }
+
+-- ---- the whole sheet
+
+-- what is told of a refusal is told of a sheet that is refused so
+pub answered-of : {len n : ℕ} {o : Out (List ℕ)} {r : Request} → o ≡ refused n → Answered len (refused n) r → Answered len o r
+answered-of {len} {n} {o} {r} h a = subst (λ (x : Out (List ℕ)). Answered len x r) (sym h) a
+
+-- the first fields of a whole sheet, then the others
+whole-next : {A B : Type 0} (p : Parser A) (k : A → Parser B) (s : List ℕ) (at : ℕ) {a : A} {e : ℕ} → p s at ≡ got a e → whole (p >>= k) s at ≡ whole (k a) s e
+unfolding whole _>>=_
+whole-next {A} {B} p k s at h = ap (λ (o : Out B). andThen o (λ b n. (end >> pure b) s n)) (next p k s at h)
+
+whole-stops : {A B : Type 0} (p : Parser A) (k : A → Parser B) (s : List ℕ) (at : ℕ) {n : ℕ} → p s at ≡ refused n → whole (p >>= k) s at ≡ refused n
+unfolding whole
+whole-stops p k s at h = stops (p >>= k) _ s at (stops p k s at h)
+
+module _ (unit t n : ℕ) (s : List ℕ) where
+  pub sheet-next : {q e : ℕ} → heading unit t n s 0 ≡ got q e → requestSheet unit t n s 0 ≡ whole (times q (block (lastDisk n))) s e
+  unfolding requestSheet
+  sheet-next h = whole-next (heading unit t n) (λ q. times q (block (lastDisk n))) s 0 h
+
+  pub sheet-stops : {m : ℕ} → heading unit t n s 0 ≡ refused m → requestSheet unit t n s 0 ≡ refused m
+  unfolding requestSheet
+  sheet-stops h = whole-stops (heading unit t n) (λ q. times q (block (lastDisk n))) s 0 h
+
+-- the blocks of a sheet whose heading was accepted
+pub answered-sheet : (unit t n : ℕ) (s : List ℕ) {q e high : ℕ} {r : Request} → heading unit t n s 0 ≡ got q e → high ≡ lastDisk n → Answered (length s) (whole (times q (block high)) s e) r → Answered (length s) (requestSheet unit t n s 0) r
+answered-sheet unit t n s {q} {e} {high} {r} h l a =
+    subst (λ (x : Out (List ℕ)). Answered (length s) x r) (ap (λ (k : ℕ). whole (times q (block k)) s e) l ∙ sym (sheet-next unit t n s h)) a
+
+-- what an accepted sheet says of its two parts
+pub record Whole (unit t n : ℕ) (s ms : List ℕ) (e : ℕ) : Type 0 where
+  pub count : ℕ
+  pub mid : ℕ
+  pub headed : Headed unit t n s count mid
+  pub small : count ≤ 1024
+  pub rest : times count (block (lastDisk n)) s mid ≡ got ms e
+  pub ends : e ≡ length s
+
+pub sheet-got : (unit t n : ℕ) (s ms : List ℕ) (e : ℕ) → requestSheet unit t n s 0 ≡ got ms e → Whole unit t n s ms e
+unfolding requestSheet
+sheet-got unit t n s ms e h =
+    let w : ((heading unit t n >>= λ q. times q (block (lastDisk n))) s 0 ≡ got ms e) × (e ≡ length s) = whole-got (heading unit t n >>= λ q. times q (block (lastDisk n))) s ms e h in
+    let f : Step (heading unit t n s 0) (λ q j. times q (block (lastDisk n)) s j) ms e = bind-got (heading unit t n) s 0 ms e (λ q. times q (block (lastDisk n))) (w .0) in
+    record {
+      count = f .found;
+      mid = f .mid;
+      headed = heading-got unit t n s (f .found) (f .mid) (f .first);
+      small = heading-within unit t n s (f .first);
+      rest = f .last;
+      ends = w .1;
+    }

@@ -1,0 +1,133 @@
+-- Reading what was written gives the same copies; what was read, written, gives the same bytes; and no request is longer than 9,229 bytes.
+--     read-written      the first
+--     write-read        the second
+--     longest-written, longest-read     the third, for what is written and for what is accepted
+use mathlib.Core.Path.{_≡_, refl, sym, ap, _∙_, subst}
+use mathlib.Core.Bool.{not}
+use mathlib.Core.List.{List, [], _∷_, _++_}
+use Prim.Native.Nat.{ℕ, _+_, _-_, _/_, _^_, _≤_, _<_}
+use native.Mathlib.Omega.{arith}
+use borrow.Author.Tests.{ne-eqb, lt-ltb, le-leb, ltb-true, ltb-false}
+use lib.Dec.{ltb}
+use lib.ListN.{length}
+use Rattle.number.specs.Bytes.{Bytes}
+use Rattle.number.specs.Encode.{encode, widthOf}
+use Rattle.number.proofs.Choice.{either}
+use Rattle.number.proofs.Encode.{width-one, width-more, width-bounds}
+use Rattle.field.specs.Sheet.{got, _>>=_, _>>_, times}
+use Rattle.field.specs.Field.{whole}
+use Rattle.field.specs.Put.{spellAll}
+use Rattle.field.specs.Send.{sheet}
+use Rattle.field.proofs.Read.{Reads, reads-bind, reads-then, reads-pure, reads-require, reads-tested, reads-checked, reads-number, reads-exactly, reads-tenancy, reads-inside, reads-whole}
+use Rattle.field.proofs.Spelt.{Spelt, spelt-join, spelt-whole, number-spelt, exactly-spelt, tenancy-spelt, inside-spelt}
+use Rattle.field.proofs.Lists.{All, Rises, reads-times, reads-climb, times-spelt, climb-spelt}
+use Rattle.request.specs.Disks.{maskOf, disksOf}
+use Rattle.request.specs.Request.{lastDisk, block, heading, requestSheet}
+use Rattle.request.specs.Draft.{blockBytes, headingBytes, requestBytes, requestDraft}
+use Rattle.request.proofs.Masks.{lt-up}
+use Rattle.request.proofs.Disks.{mask-all, disks-mask, disks-rise}
+use Rattle.request.proofs.Reading.{last-le, Listed, block-got, Headed, Whole, sheet-got}
+use Rattle.request.proofs.Accepted.{last-of, count-of, block-sendable}
+use Rattle.request.proofs.Drafting.{Sendable, checked-pass, Drafted, drafted, draft-of, blocks-bound, request-length}
+
+-- ---- reading what was written
+
+-- no disks: the number is 0
+no-disks : (ds : List ℕ) → length ds ≡ 0 → maskOf ds ≡ 0
+unfolding maskOf
+no-disks [] h = refl
+no-disks (d ∷ ds) h = absurd (omega arith)
+
+module _ (n : ℕ) (known : n ≡ 0 → ⊥) (within : n ≤ 64) where
+  reads-block : (m : ℕ) → Sendable n m → Reads (block (lastDisk n)) (blockBytes m) m
+  unfolding block blockBytes
+  reads-block m s =
+      let all : m < 2 ^ 64 = lt-up (s .under) within in
+      let top : m < 2 ^ (lastDisk n + 1) = subst (λ (k : ℕ). m < 2 ^ k) (sym (last-of n known within)) (s .under) in
+      let back : maskOf (disksOf m) ≡ m = mask-all m all in
+      let some : length (disksOf m) ≡ 0 → ⊥ = λ z. s .some (sym back ∙ no-disks (disksOf m) z) in
+      let few : length (disksOf m) ≤ 8 = omega (arith, count-of m, s .few) in
+      subst (λ (k : ℕ). Reads (block (lastDisk n)) (blockBytes m) k) back
+      (reads-bind _ (reads-number (length (disksOf m)) (omega arith))
+      (reads-tested (reads-require 7 (ap not (ne-eqb (length (disksOf m)) 0 some)))
+      (reads-tested (reads-require 6 (le-leb (length (disksOf m)) 8 few))
+      (reads-checked _ (reads-climb (lastDisk n) (omega (arith, last-le n)) 0 (disksOf m) (disks-rise (lastDisk n) m (last-le n) top)) (reads-pure (maskOf (disksOf m)))))))
+
+  reads-heading : (unit t q : ℕ) → unit < 2 ^ 32 → t < 2 ^ 32 → 0 < t → q ≤ 1024 → Reads (heading unit t n) (headingBytes unit t q) q
+  unfolding heading headingBytes
+  reads-heading unit t q hu ht pt hq =
+      reads-then (reads-exactly 2 3 (omega arith))
+      (reads-then (reads-exactly unit 4 hu)
+      (reads-then (reads-tenancy t pt ht)
+      (reads-tested (reads-require 10 (lt-ltb 0 n (omega (arith, known)))) (reads-inside 0 1024 q (omega arith) hq (omega arith)))))
+
+pub read-written : (unit t n : ℕ) (ms bs : List ℕ) → unit < 2 ^ 32 → t < 2 ^ 32 → requestDraft unit t n ms ≡ sheet bs → requestSheet unit t n bs 0 ≡ got ms (length bs)
+unfolding requestSheet requestBytes
+read-written unit t n ms bs hu ht h =
+    let d : Drafted unit t n ms bs = drafted unit t n ms bs h in
+    subst (λ (x : List ℕ). whole (heading unit t n >>= λ q. times q (block (lastDisk n))) x 0 ≡ got ms (length x)) (sym (d .bytes))
+    (reads-whole
+    (reads-bind (λ q. times q (block (lastDisk n)))
+    (reads-heading n (d .known) (d .within) unit t (length ms) hu ht (omega (arith, d .rented)) (d .count))
+    (reads-times (block (lastDisk n)) blockBytes (Sendable n) (reads-block n (d .known) (d .within)) ms (d .blocks))))
+
+-- ---- writing what was read
+
+module _ (s : List ℕ) (bytes : Bytes s) (n : ℕ) (known : n ≡ 0 → ⊥) (within : n ≤ 64) where
+  block-spelt : (at m e : ℕ) → block (lastDisk n) s at ≡ got m e → Spelt s at e (blockBytes m) × Sendable n m
+  unfolding blockBytes
+  block-spelt at m e h =
+      let w : Listed (lastDisk n) s at m e = block-got (lastDisk n) s at m e h in
+      let a : Spelt s at (w .mid) (encode (w .count)) × (w .count < 2 ^ 32) = number-spelt s at (w .count) (w .mid) bytes (w .first) in
+      let b : Spelt s (w .mid) e (spellAll encode (w .disks)) × (length (w .disks) ≡ w .count) × Rises 0 (lastDisk n) (w .disks) = climb-spelt (lastDisk n) s bytes (w .count) 0 (w .mid) (w .disks) e (a .0 .within) (w .rest) in
+      let same : disksOf m ≡ w .disks = ap disksOf (sym (w .sum)) ∙ disks-mask (lastDisk n) (w .disks) (last-le n) (b .2) in
+      let joined : Spelt s at e (encode (length (w .disks)) ++ spellAll encode (w .disks)) = subst (λ (k : ℕ). Spelt s at e (encode k ++ spellAll encode (w .disks))) (sym (b .1)) (spelt-join (a .0) (b .0)) in
+      (subst (λ (ds : List ℕ). Spelt s at e (encode (length ds) ++ spellAll encode ds)) (sym same) joined, block-sendable n known within s at m e h)
+
+  heading-spelt : (unit t q e : ℕ) → Headed unit t n s q e → Spelt s 0 e (headingBytes unit t q) × (0 < t) × (q ≤ 1024)
+  unfolding headingBytes
+  heading-spelt unit t q e h =
+      let f : Spelt s 0 (h .a) (encode (h .kind)) × (h .kind ≡ 2) = exactly-spelt s 0 (h .kind) (h .a) bytes 2 3 (h .first) in
+      let g : Spelt s (h .a) (h .b) (encode (h .num)) × (h .num ≡ unit) = exactly-spelt s (h .a) (h .num) (h .b) bytes unit 4 (h .second) in
+      let i : Spelt s (h .b) (h .c) (encode (h .lease)) × (h .lease ≡ t) × (0 < h .lease) = tenancy-spelt s (h .b) (h .lease) (h .c) bytes t (h .third) in
+      let j : Spelt s (h .c) e (encode q) × (0 ≤ q) × (q ≤ 1024) = inside-spelt s (h .c) q e bytes 0 1024 (h .last) in
+      let a : Spelt s 0 (h .a) (encode 2) = subst (λ (k : ℕ). Spelt s 0 (h .a) (encode k)) (f .1) (f .0) in
+      let b : Spelt s (h .a) (h .b) (encode unit) = subst (λ (k : ℕ). Spelt s (h .a) (h .b) (encode k)) (g .1) (g .0) in
+      let c : Spelt s (h .b) (h .c) (encode t) = subst (λ (k : ℕ). Spelt s (h .b) (h .c) (encode k)) (i .1) (i .0) in
+      (spelt-join a (spelt-join b (spelt-join c (j .0))), omega (arith, i .1, i .2), j .2)
+
+pub write-read : (unit t n : ℕ) (s ms : List ℕ) (e : ℕ) → Bytes s → n ≤ 64 → requestSheet unit t n s 0 ≡ got ms e → requestDraft unit t n ms ≡ sheet s
+unfolding requestBytes
+write-read unit t n s ms e b l h =
+    let w : Whole unit t n s ms e = sheet-got unit t n s ms e h in
+    let known : n ≡ 0 → ⊥ = λ z. (let p : 0 < n = ltb-true 0 n (w .headed .known) in omega arith) in
+    let i : Spelt s 0 (w .mid) (headingBytes unit t (w .count)) × (0 < t) × (w .count ≤ 1024) = heading-spelt s b n known l unit t (w .count) (w .mid) (w .headed) in
+    let j : Spelt s (w .mid) e (spellAll blockBytes ms) × (length ms ≡ w .count) × All (Sendable n) ms = times-spelt (block (lastDisk n)) blockBytes (Sendable n) s (block-spelt s b n known l) (w .count) (w .mid) ms e (i .0 .within) (w .rest) in
+    let joined : Spelt s 0 e (headingBytes unit t (length ms) ++ spellAll blockBytes ms) = subst (λ (k : ℕ). Spelt s 0 e (headingBytes unit t k ++ spellAll blockBytes ms)) (sym (j .1)) (spelt-join (i .0) (j .0)) in
+    draft-of unit t n ms (λ z. omega (arith, i .1)) known l (omega (arith, i .2, j .1)) ∙ checked-pass n ms _ (j .2) ∙ ap sheet (sym (spelt-whole s e _ (w .ends) joined))
+
+-- ---- the longest request
+
+-- a block count takes two bytes at the most
+count-width : (q : ℕ) → q ≤ 1024 → widthOf q ≤ 2
+count-width q h =
+    either (ltb q 128)
+    (λ t. omega (arith, width-one q (ltb-true q 128 t)))
+    (λ f. let l : 128 ≤ q = ltb-false q 128 f in omega (arith, width-more q l (omega arith), width-one (q / 128) (omega arith)))
+
+pub longest-written : (unit t n : ℕ) (ms bs : List ℕ) → requestDraft unit t n ms ≡ sheet bs → length bs ≤ 9229
+longest-written unit t n ms bs h =
+    let d : Drafted unit t n ms bs = drafted unit t n ms bs h in
+    omega (
+      arith,
+      ap length (d .bytes),
+      request-length unit t ms refl refl refl (record { count = d .count; bytes = refl; small = blocks-bound n ms (d .blocks) }),
+      width-bounds unit,
+      width-bounds t,
+      count-width (length ms) (d .count),
+      blocks-bound n ms (d .blocks),
+      d .count,
+    )
+
+pub longest-read : (unit t n : ℕ) (s ms : List ℕ) (e : ℕ) → Bytes s → n ≤ 64 → requestSheet unit t n s 0 ≡ got ms e → length s ≤ 9229
+longest-read unit t n s ms e b l h = longest-written unit t n ms s (write-read unit t n s ms e b l h)

@@ -1,0 +1,211 @@
+-- Laws of writing a request.
+--     written-length, written-join, put-one, put-head     bytes behind bytes; one field; the fields before the blocks
+--     spell-append, disks-in, disks-out                   the bytes of a list's parts; one place more of a number of copies
+--     disk-in, disk-out                                   the loop over the disks of a block
+--     block-length, block-put                             the bytes of a block
+--     blocks-room, blocks-more                            the loop over the blocks
+use mathlib.Core.Path.{_≡_, refl, sym, ap, _∙_, subst}
+use mathlib.Core.Bool.{Bool, true, false}
+use mathlib.Core.List.{List, [], _∷_, _++_, append-assoc, append-nil}
+use Prim.Native.Nat.{ℕ, zero, suc, _+_, _-_, _≤_, _<_}
+use native.Mathlib.Omega.{arith}
+use lib.ListN.{length, take, drop, getD, length-append}
+use lib.Seq.{length-take-le, drop-drop, take-at, drop-append-add, take-suc, take-length, split-at}
+use Rattle.number.specs.Encode.{encode, widthOf}
+use Rattle.number.proofs.Choice.{pick-true, pick-false, either}
+use Rattle.number.proofs.Encode.{width-one}
+use Rattle.mask.specs.Has.{has}
+use Rattle.mask.specs.Count.{bit, members}
+use Rattle.mask.proofs.Members.{members-le}
+use Rattle.field.specs.Put.{spellAll, paste, Put, Written}
+use Rattle.field.proofs.Puts.{length-paste, written-none, written-more}
+use Rattle.request.specs.Disks.{disksBelow, disksOf}
+use Rattle.request.specs.Draft.{blockBytes, headingBytes}
+
+-- ---- bytes behind bytes
+
+paste-paste : (out : List ℕ) (at : ℕ) (bs cs : List ℕ) → at + length bs + length cs ≤ length out → paste (paste out at bs) (at + length bs) cs ≡ paste out at (bs ++ cs)
+unfolding paste
+paste-paste out at bs cs h =
+    let n : length (take at out ++ bs) ≡ at + length bs = length-append (take at out) bs ∙ ap (λ (k : ℕ). k + length bs) (length-take-le at out (omega arith)) in
+    let e : take at out ++ (bs ++ drop (at + length bs) out) ≡ (take at out ++ bs) ++ drop (at + length bs) out = sym (append-assoc (take at out) bs (drop (at + length bs) out)) in
+    let sum : at + length bs + length cs ≡ at + length (bs ++ cs) = omega (arith, length-append bs cs) in
+    let before : take (at + length bs) (take at out ++ (bs ++ drop (at + length bs) out)) ≡ take at out ++ bs =
+    ap (take (at + length bs)) e ∙ take-at (take at out ++ bs) (drop (at + length bs) out) (at + length bs) n in
+    let behind : drop (at + length bs + length cs) (take at out ++ (bs ++ drop (at + length bs) out)) ≡ drop (at + length (bs ++ cs)) out =
+    ap (drop (at + length bs + length cs)) e
+    ∙ ap (λ (k : ℕ). drop (k + length cs) ((take at out ++ bs) ++ drop (at + length bs) out)) (sym n)
+    ∙ drop-append-add (take at out ++ bs) (drop (at + length bs) out) (length cs)
+    ∙ drop-drop (length cs) (at + length bs) out
+    ∙ ap (λ (k : ℕ). drop k out) sum in
+    ap (λ (x : List ℕ). x ++ (cs ++ drop (at + length bs + length cs) (take at out ++ (bs ++ drop (at + length bs) out)))) before
+    ∙ ap (λ (x : List ℕ). (take at out ++ bs) ++ (cs ++ x)) behind
+    ∙ append-assoc (take at out) bs (cs ++ drop (at + length (bs ++ cs)) out)
+    ∙ ap (λ (x : List ℕ). take at out ++ x) (sym (append-assoc bs cs (drop (at + length (bs ++ cs)) out)))
+
+pub written-length : {out : List ℕ} {at : ℕ} {bs after : List ℕ} {next : ℕ} → Written out at bs after next → length after ≡ length out
+written-length {out} {at} {bs} w = ap length (w .held) ∙ length-paste out at bs (w .fit)
+
+pub written-join : {out : List ℕ} {at : ℕ} {bs mid : List ℕ} {p : ℕ} {cs after : List ℕ} {next : ℕ} → Written out at bs mid p → Written mid p cs after next → Written out at (bs ++ cs) after next
+written-join {out} {at} {bs} {mid} {p} {cs} {after} {next} f g =
+    let same : length mid ≡ length out = written-length f in
+    record {
+      fit = omega (arith, g .fit, f .place, length-append bs cs);
+      held = g .held ∙ ap (λ (k : ℕ). paste mid k cs) (f .place) ∙ ap (λ (x : List ℕ). paste x (at + length bs) cs) (f .held)
+          ∙ paste-paste out at bs cs (omega (arith, g .fit, f .place));
+      place = omega (arith, g .place, f .place, length-append bs cs);
+    }
+
+pub put-one : {v : ℕ} {out : List ℕ} {at next : ℕ} {after : List ℕ} → Put v out at next after → at + widthOf v ≤ length out → Written out at (encode v) after next
+put-one {v} {out} {at} f h = written-more (written-none out at (omega arith)) f h
+
+-- the same under other names
+pub written-as : {out : List ℕ} {at : ℕ} {bs after after′ : List ℕ} {next next′ : ℕ} → after′ ≡ after → next′ ≡ next → Written out at bs after next → Written out at bs after′ next′
+written-as e q w = record { fit = w .fit; held = e ∙ w .held; place = q ∙ w .place }
+
+-- ---- the fields before the blocks
+
+pub put-head : {unit t q : ℕ} {o o₁ o₂ o₃ o₄ : List ℕ} {a b c d : ℕ} → Put 2 o 0 a o₁ → Put unit o₁ a b o₂ → Put t o₂ b c o₃ → Put q o₃ c d o₄
+    → length (headingBytes unit t q) ≤ length o → Written o 0 (headingBytes unit t q) o₄ d
+unfolding headingBytes widthOf
+put-head {unit} {t} {q} {o} {o₁} {o₂} {o₃} {o₄} {a} {b} {c} {d} f g h i room =
+    let n₁ = length-append (encode 2) (encode unit ++ (encode t ++ encode q)) in
+    let n₂ = length-append (encode unit) (encode t ++ encode q) in
+    let n₃ = length-append (encode t) (encode q) in
+    let w₁ : Written o 0 (encode 2) o₁ a = put-one f (omega arith) in
+    let w₂ : Written o 0 (encode 2 ++ encode unit) o₂ b = written-more w₁ g (omega (arith, w₁ .place)) in
+    let w₃ : Written o 0 ((encode 2 ++ encode unit) ++ encode t) o₃ c = written-more w₂ h (omega (arith, w₂ .place, length-append (encode 2) (encode unit))) in
+    let w₄ : Written o 0 (((encode 2 ++ encode unit) ++ encode t) ++ encode q) o₄ d =
+    written-more w₃ i (omega (arith, w₃ .place, length-append (encode 2 ++ encode unit) (encode t), length-append (encode 2) (encode unit))) in
+    let e : ((encode 2 ++ encode unit) ++ encode t) ++ encode q ≡ encode 2 ++ (encode unit ++ (encode t ++ encode q)) = simp append-assoc in
+    subst (λ (x : List ℕ). Written o 0 x o₄ d) e w₄
+
+-- ---- the disks of a block
+
+pub spell-append : {A : Type 0} (spell : A → List ℕ) (xs ys : List A) → spellAll spell (xs ++ ys) ≡ spellAll spell xs ++ spellAll spell ys
+unfolding spellAll
+spell-append spell [] ys = refl
+spell-append spell (x ∷ xs) ys = ap (λ (z : List ℕ). spell x ++ z) (spell-append spell xs ys) ∙ sym (append-assoc (spell x) (spellAll spell xs) (spellAll spell ys))
+
+module _ (m : ℕ) where
+  pub disks-in : (d : ℕ) → has m d ≡ true → spellAll encode (disksBelow (suc d) m) ≡ spellAll encode (disksBelow d m) ++ encode d
+  unfolding disksBelow spellAll
+  disks-in d h =
+      ap (λ (x : List ℕ). spellAll encode (disksBelow d m ++ x)) (pick-true (d ∷ []) [] h)
+      ∙ spell-append encode (disksBelow d m) (d ∷ [])
+      ∙ ap (λ (x : List ℕ). spellAll encode (disksBelow d m) ++ x) (append-nil (encode d))
+
+  pub disks-out : (d : ℕ) → has m d ≡ false → spellAll encode (disksBelow (suc d) m) ≡ spellAll encode (disksBelow d m)
+  unfolding disksBelow
+  disks-out d h =
+      ap (λ (x : List ℕ). spellAll encode (disksBelow d m ++ x)) (pick-false (d ∷ []) [] h) ∙ ap (spellAll encode) (append-nil (disksBelow d m))
+
+  -- each disk below 128 is one byte
+  pub disks-length : (n : ℕ) → n ≤ 128 → length (spellAll encode (disksBelow n m)) ≡ members n m
+  unfolding members bit disksBelow spellAll widthOf
+  disks-length zero h = refl
+  disks-length (suc d) h =
+      either (has m d)
+      (λ t. omega (arith, ap length (disks-in d t), length-append (spellAll encode (disksBelow d m)) (encode d), width-one d (omega arith), disks-length d (omega arith), ap bit t))
+      (λ f. omega (arith, ap length (disks-out d f), disks-length d (omega arith), ap bit f))
+
+  pub disks-count : (n : ℕ) → length (disksBelow n m) ≡ members n m
+  unfolding members bit disksBelow
+  disks-count zero = refl
+  disks-count (suc d) =
+      either (has m d)
+      (λ t. omega (arith, ap (λ (x : List ℕ). length (disksBelow d m ++ x)) (pick-true (d ∷ []) [] t), length-append (disksBelow d m) (d ∷ []), disks-count d, ap bit t))
+      (λ f. omega (arith, ap (λ (x : List ℕ). length (disksBelow d m ++ x)) (pick-false (d ∷ []) [] f), length-append (disksBelow d m) [], disks-count d, ap bit f))
+
+  members-in : (d : ℕ) → has m d ≡ true → members (suc d) m ≡ members d m + 1
+  unfolding members bit
+  members-in d t = ap (λ (b : Bool). members d m + bit b) t
+
+  -- fewer places hold no more disks
+  members-mono : (d k : ℕ) → members d m ≤ members (d + k) m
+  unfolding members
+  members-mono d zero = let e : members (d + 0) m ≡ members d m = ap (λ (k : ℕ). members k m) {x = d + 0} {y = d} (omega arith) in omega arith
+  members-mono d (suc k) =
+      let e : members (d + suc k) m ≡ members (d + k) m + bit (has m (d + k)) = ap (λ (k : ℕ). members k m) {x = d + suc k} {y = suc (d + k)} (omega arith) in
+      omega (arith, members-mono d k)
+
+  module _ {out : List ℕ} {at : ℕ} (d : ℕ) {mid : List ℕ} {p : ℕ} (w : Written out at (spellAll encode (disksBelow d m)) mid p) where
+    pub disk-in : {next : ℕ} {after : List ℕ} → has m d ≡ true → d < 64 → at + length (spellAll encode (disksOf m)) ≤ length out → Put d mid p next after → Written out at (spellAll encode (disksBelow (d + 1) m)) after next
+    unfolding disksOf
+    disk-in {next} {after} t l room f =
+        let one : widthOf d ≡ 1 = width-one d (omega arith) in
+        let more : members (suc d) m ≤ members (suc d + (64 - suc d)) m = members-mono (suc d) (64 - suc d) in
+        let all : members (suc d + (64 - suc d)) m ≡ members 64 m = ap (λ (k : ℕ). members k m) {x = suc d + (64 - suc d)} {y = 64} (omega arith) in
+        let e : spellAll encode (disksBelow d m) ++ encode d ≡ spellAll encode (disksBelow (d + 1) m) =
+        sym (disks-in d t) ∙ ap (λ (k : ℕ). spellAll encode (disksBelow k m)) {x = suc d} {y = d + 1} (omega arith) in
+        subst (λ (x : List ℕ). Written out at x after next) e
+        (written-more w f (omega (arith, w .place, disks-length d (omega arith), disks-length 64 (omega arith), members-in d t)))
+
+    pub disk-out : has m d ≡ false → Written out at (spellAll encode (disksBelow (d + 1) m)) mid p
+    disk-out f =
+        let e : spellAll encode (disksBelow d m) ≡ spellAll encode (disksBelow (d + 1) m) =
+        sym (disks-out d f) ∙ ap (λ (k : ℕ). spellAll encode (disksBelow k m)) {x = suc d} {y = d + 1} (omega arith) in
+        subst (λ (x : List ℕ). Written out at x mid p) e w
+
+    pub disks-all : d ≡ 64 → Written out at (spellAll encode (disksOf m)) mid p
+    unfolding disksOf
+    disks-all e = subst (λ (k : ℕ). Written out at (spellAll encode (disksBelow k m)) mid p) e w
+
+  -- ---- a block
+
+  pub block-length : length (blockBytes m) ≡ 1 + members 64 m
+  unfolding blockBytes disksOf widthOf
+  block-length =
+      omega (
+        arith,
+        length-append (encode (length (disksBelow 64 m))) (spellAll encode (disksBelow 64 m)),
+        width-one (length (disksBelow 64 m)) (omega (arith, disks-count 64, members-le 64 m)),
+        disks-length 64 (omega arith),
+      )
+
+  module _ {out : List ℕ} {at k p : ℕ} {mid : List ℕ} (e : k ≡ members 64 m) (h : at + length (blockBytes m) ≤ length out) (f : Put k out at p mid) where
+    count-put : Written out at (encode k) mid p
+    count-put = put-one f (omega (arith, block-length, width-one k (omega (arith, e, members-le 64 m))))
+
+    -- behind the copy count there is room for the disks
+    pub block-room : p + length (spellAll encode (disksOf m)) ≤ length mid
+    unfolding disksOf widthOf
+    block-room = omega (arith, e, block-length, count-put .place, written-length count-put, width-one k (omega (arith, e, members-le 64 m)), disks-length 64 (omega arith))
+
+    pub block-put : {next : ℕ} {after : List ℕ} → Written mid p (spellAll encode (disksOf m)) after next → Written out at (blockBytes m) after next
+    unfolding blockBytes disksOf
+    block-put {next} {after} w =
+        let q : encode k ≡ encode (length (disksBelow 64 m)) = ap encode (e ∙ sym (disks-count 64)) in
+        subst (λ (x : List ℕ). Written out at (x ++ spellAll encode (disksBelow 64 m)) after next) q (written-join count-put w)
+
+-- ---- block after block
+
+module _ {A : Type 0} (spell : A → List ℕ) (ms : List A) (i : ℕ) (z : A) (l : i < length ms) where
+  spell-split : spellAll spell ms ≡ spellAll spell (take i ms) ++ (spell (getD ms i z) ++ spellAll spell (drop (suc i) ms))
+  unfolding spellAll
+  spell-split = ap (spellAll spell) (split-at ms i z l) ∙ spell-append spell (take i ms) (getD ms i z ∷ drop (suc i) ms)
+
+  pub spell-more : spellAll spell (take i ms) ++ spell (getD ms i z) ≡ spellAll spell (take (i + 1) ms)
+  unfolding spellAll
+  spell-more =
+      sym (ap (λ (x : List ℕ). spellAll spell (take i ms) ++ x) (append-nil (spell (getD ms i z))))
+      ∙ sym (spell-append spell (take i ms) (getD ms i z ∷ []))
+      ∙ ap (spellAll spell) (sym (take-suc ms i z l) ∙ ap (λ (k : ℕ). take k ms) {x = suc i} {y = i + 1} (omega arith))
+
+  pub spell-room : {out : List ℕ} {at p : ℕ} {mid : List ℕ} → Written out at (spellAll spell (take i ms)) mid p → at + length (spellAll spell ms) ≤ length out → p + length (spell (getD ms i z)) ≤ length mid
+  spell-room {out} {at} {p} {mid} w h =
+      omega (
+        arith,
+        w .place,
+        written-length w,
+        ap length spell-split,
+        length-append (spellAll spell (take i ms)) (spell (getD ms i z) ++ spellAll spell (drop (suc i) ms)),
+        length-append (spell (getD ms i z)) (spellAll spell (drop (suc i) ms)),
+      )
+
+module _ (ms : List ℕ) (i : ℕ) {out : List ℕ} {at : ℕ} {mid : List ℕ} {p : ℕ} where
+  pub blocks-more : {next : ℕ} {after : List ℕ} → i < length ms → Written out at (spellAll blockBytes (take i ms)) mid p → Written mid p (blockBytes (getD ms i 0)) after next → Written out at (spellAll blockBytes (take (i + 1) ms)) after next
+  blocks-more {next} {after} l w f = subst (λ (x : List ℕ). Written out at x after next) (spell-more blockBytes ms i 0 l) (written-join w f)
+
+  pub blocks-all : Written out at (spellAll blockBytes (take i ms)) mid p → i ≡ length ms → Written out at (spellAll blockBytes ms) mid p
+  blocks-all w e = subst (λ (x : List ℕ). Written out at (spellAll blockBytes x) mid p) (ap (λ (k : ℕ). take k ms) e ∙ take-length ms) w

@@ -1,0 +1,49 @@
+-- `one_block` meets its contract, by the laws of a block for each copy count.
+use borrow.Author.Needs.{needs}
+use Rattle.request.proofs.Reading.{block-none, block-many, block-of, block-stops}
+use Rattle.request.specs.Told.{toldCopies}
+use Rattle.field.specs.Refusal.{numberOf}
+use Rattle.field.proofs.Readers.{told-got, told-refused}
+use mathlib.Core.Path.{sym, _∙_}
+use Rattle.request.proofs.one_block.Statement.{statement}
+use Rattle.request.proofs.one_block.Tie as tie
+
+any-requires : tie.Need-any-requires
+any-requires c κs = search needs
+
+enum-known-k : tie.Need-enum-known-k
+enum-known-k c = search needs
+
+returns : tie.Need-returns
+unfolding toldCopies numberOf
+returns c = sym (block-none _ _ _ _ _ (told-got (c .before .before .before .before .any .ensures) (c .before .before .k .given .1)) (c .if1 .taken))
+
+returns-2 : tie.Need-returns-2
+unfolding toldCopies numberOf
+returns-2 c = sym (block-many _ _ _ _ _ (told-got (c .before .before .before .before .before .any .ensures) (c .before .before .before .k .given .1)) (c .before .if1 .left) (c .if2 .taken))
+
+gather-requires : tie.Need-gather-requires
+gather-requires c κs = search needs
+
+enum-known-e : tie.Need-enum-known-e
+enum-known-e c = search needs
+
+returns-3 : tie.Need-returns-3
+returns-3 c = c .gather .ensures ∙ sym (block-of _ _ _ _ _ (told-got (c .before .before .before .before .before .before .any .ensures) (c .before .before .before .before .k .given .1)) (c .before .before .if1 .left) (c .before .if2 .left))
+
+returns-4 : tie.Need-returns-4
+unfolding toldCopies
+returns-4 c = sym (block-stops _ _ _ (told-refused (c .before .before .before .any .ensures) (c .before .e .given .1)))
+
+pub one-block-spec : {M : Type 1} → statement M
+one-block-spec =
+    tie.close
+    (tie.spec
+    any-requires
+    enum-known-k
+    returns
+    returns-2
+    gather-requires
+    enum-known-e
+    returns-3
+    returns-4)

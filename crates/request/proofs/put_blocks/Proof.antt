@@ -1,0 +1,62 @@
+-- `put_blocks` meets its contract. The invariant: the bytes of the first i blocks were written, and nothing else.
+use borrow.Author.Needs.{needs}
+use native.Mathlib.Omega.{arith}
+use Rattle.request.proofs.Writing.{spell-room, blocks-more, blocks-all, written-length}
+use Rattle.request.specs.Draft.{blockBytes}
+use Rattle.field.proofs.Puts.{written-none}
+use Rattle.field.specs.Put.{spellAll}
+use Rattle.field.specs.Put.{Written as Wrote}
+use lib.ListN.{length, take}
+use Prim.Native.Nat.{_+_, _-_, _≤_}
+use Rattle.request.proofs.put_blocks.Statement.{statement}
+use Rattle.request.proofs.put_blocks.Tie as tie
+
+abbrev Inv-loop : tie.InvT-loop
+Inv-loop copies out₀ at p₀ i₀ out p i = (i ≤ length copies) × (at + length (spellAll blockBytes copies) ≤ length out₀) × Wrote out₀ at (spellAll blockBytes (take i copies)) out p
+
+abbrev μ-loop : tie.MeasureT-loop
+μ-loop copies out₀ at p₀ i₀ out p i = length copies - i
+
+loop-holds : tie.Need-loop-holds Inv-loop μ-loop
+unfolding spellAll
+loop-holds c = (omega arith, c .before .before .pre, written-none _ _ (omega (arith, c .before .before .pre)))
+
+mul-put-block : tie.Need-mul-put-block Inv-loop μ-loop
+mul-put-block c = search needs
+
+shared-slice-read-put-block : tie.Need-shared-slice-read-put-block Inv-loop μ-loop
+shared-slice-read-put-block c = search needs
+
+put-block-requires : tie.Need-put-block-requires Inv-loop μ-loop
+put-block-requires c κs = spell-room blockBytes _ _ 0 (c .before .before .loop-test .taken) (c .before .before .before .loop .inv .2) (c .before .before .before .loop .inv .1)
+
+add-i : tie.Need-add-i Inv-loop μ-loop
+add-i c = search needs
+
+loop-less : tie.Need-loop-less Inv-loop μ-loop
+loop-less c = search needs
+
+loop-again : tie.Need-loop-again Inv-loop μ-loop
+loop-again c = (omega (arith, c .before .before .before .before .before .loop-test .taken), c .before .before .before .before .before .before .loop .inv .1, blocks-more _ _ (c .before .before .before .before .before .loop-test .taken) (c .before .before .before .before .before .before .loop .inv .2) (c .before .before .put-block .ensures))
+
+same-length : tie.Need-same-length Inv-loop μ-loop
+same-length c = written-length (c .before .loop .inv .2)
+
+returns : tie.Need-returns Inv-loop μ-loop
+returns c = blocks-all _ (c .before .loop .i) (c .before .loop .inv .2) (omega (arith, c .before .loop .inv .0))
+
+pub put-blocks-spec : {M : Type 1} → statement M
+put-blocks-spec =
+    tie.close
+    (tie.spec
+    Inv-loop
+    μ-loop
+    loop-holds
+    mul-put-block
+    shared-slice-read-put-block
+    put-block-requires
+    add-i
+    loop-less
+    loop-again
+    same-length
+    returns)

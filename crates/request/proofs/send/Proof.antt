@@ -1,0 +1,86 @@
+-- `send` meets its contract: the length is added up first, so that 11 has changed nothing; then the heading and the blocks, one behind the other.
+use borrow.Author.Needs.{needs}
+use native.Mathlib.Omega.{arith}
+use Rattle.request.proofs.Drafting.{request-length, heading-room, blocks-room, request-sent}
+use Rattle.request.specs.Draft.{requestBytes}
+use Rattle.field.proofs.Sends.{sent-long}
+use Rattle.number.proofs.Encode.{width-bounds}
+use lib.ListN.{length}
+use Prim.Native.Nat.{_≤_}
+use Rattle.request.proofs.send.Statement.{statement}
+use Rattle.request.proofs.send.Tie as tie
+
+cast-q : tie.Need-cast-q
+cast-q c = search needs
+
+width-requires : tie.Need-width-requires
+width-requires c κs = search needs
+
+add-length : tie.Need-add-length
+add-length c = omega (arith, c .width .ensures, width-bounds (c .before .before .before .args .unit))
+
+width-requires-2 : tie.Need-width-requires-2
+width-requires-2 c κs = search needs
+
+add-length-2 : tie.Need-add-length-2
+add-length-2 c = let at = c .before .before .before .before in
+    omega (arith, c .width2 .ensures, c .before .width .ensures, width-bounds (at .args .unit), width-bounds (at .args .tenancy))
+
+width-requires-3 : tie.Need-width-requires-3
+width-requires-3 c κs = search needs
+
+add-length-3 : tie.Need-add-length-3
+add-length-3 c = let at = c .before .before .before .before .before in
+    omega (arith, c .width3 .ensures, c .before .width2 .ensures, c .before .before .width .ensures, width-bounds (at .args .unit), width-bounds (at .args .tenancy), width-bounds (length (at .args .copies .now)))
+
+add-length-4 : tie.Need-add-length-4
+add-length-4 c = let at = c .before .before .before .before .before in
+    omega (arith, c .width3 .ensures, c .before .width2 .ensures, c .before .before .width .ensures, width-bounds (at .args .unit), width-bounds (at .args .tenancy), width-bounds (length (at .args .copies .now)), at .pre .small, at .pre .count)
+
+returns : tie.Need-returns
+returns c = let at = c .before .before .before .before .before .before in
+    let wide = c .before in
+    let long = request-length (at .args .unit) (at .args .tenancy) (at .args .copies .now) (wide .before .before .width .ensures) (wide .before .width2 .ensures) (wide .width3 .ensures) (at .pre) in
+    sent-long _ _ (omega (arith, long, c .if1 .taken))
+
+put-heading-requires : tie.Need-put-heading-requires
+put-heading-requires c κs = let at = c .before .before .before .before .before .before .before in
+    let wide = c .before .before in
+    let long = request-length (at .args .unit) (at .args .tenancy) (at .args .copies .now) (wide .before .before .width .ensures) (wide .before .width2 .ensures) (wide .width3 .ensures) (at .pre) in
+    let room : length (requestBytes (at .args .unit) (at .args .tenancy) (at .args .copies .now)) ≤ length (at .args .out .now) = omega (arith, long, c .before .if1 .left) in
+    heading-room (at .args .unit) (at .args .tenancy) (at .args .copies .now) (at .args .out .now) room
+
+put-blocks-requires : tie.Need-put-blocks-requires
+put-blocks-requires c κs = let at = c .before .before .before .before .before .before .before .before .before .before .before in
+    let wide = c .before .before .before .before .before .before in
+    let long = request-length (at .args .unit) (at .args .tenancy) (at .args .copies .now) (wide .before .before .width .ensures) (wide .before .width2 .ensures) (wide .width3 .ensures) (at .pre) in
+    let room : length (requestBytes (at .args .unit) (at .args .tenancy) (at .args .copies .now)) ≤ length (at .args .out .now) = omega (arith, long, c .before .before .before .before .before .if1 .left) in
+    blocks-room _ _ _ _ room (c .before .before .before .put-heading .ensures)
+
+same-length : tie.Need-same-length
+same-length c = search needs
+
+returns-2 : tie.Need-returns-2
+returns-2 c = let at = c .before .before .before .before .before .before .before .before .before .before .before .before .before .before in
+    let wide = c .before .before .before .before .before .before .before .before .before in
+    let long = request-length (at .args .unit) (at .args .tenancy) (at .args .copies .now) (wide .before .before .width .ensures) (wide .before .width2 .ensures) (wide .width3 .ensures) (at .pre) in
+    let room : length (requestBytes (at .args .unit) (at .args .tenancy) (at .args .copies .now)) ≤ length (at .args .out .now) = omega (arith, long, c .before .before .before .before .before .before .before .before .if1 .left) in
+    request-sent _ _ _ _ room (c .before .before .before .before .before .before .put-heading .ensures) (c .before .before .put-blocks .ensures)
+
+pub send-spec : {M : Type 1} → statement M
+send-spec =
+    tie.close
+    (tie.spec
+    cast-q
+    width-requires
+    add-length
+    width-requires-2
+    add-length-2
+    width-requires-3
+    add-length-3
+    add-length-4
+    returns
+    put-heading-requires
+    put-blocks-requires
+    same-length
+    returns-2)

@@ -1,0 +1,4 @@
+pub mod Disks
+pub mod Request
+pub mod Told
+pub mod Draft

@@ -1,0 +1,41 @@
+-- A read request: kind 2, unit, tenancy, block count Q, then for each block the copy count k and k disk numbers, rising.
+--     lastDisk         the last disk of a unit that has N disks
+--     block            one block, as the number of its copies
+--     heading          the fields before the blocks: it gives Q
+--     requestSheet     a whole read request: it gives the numbers of copies of its blocks
+use Prim.Native.Nat.{ℕ, _-_}
+use mathlib.Core.Bool.{not}
+use mathlib.Core.List.{List}
+use lib.Dec.{eqb, leb, ltb}
+use Rattle.number.specs.Choice.{pick}
+use Rattle.field.specs.Sheet.{Parser, _>>=_, _>>_, pure, require, times}
+use Rattle.field.specs.Field.{number, exactly, tenancy, inside, climb, whole}
+use Rattle.request.specs.Disks.{maskOf}
+
+-- disks are 0 to N - 1; a number of copies has no bit above 63
+unfoldable pub lastDisk : ℕ → ℕ
+lastDisk n = pick (ltb n 64) (n - 1) 63
+
+-- k from 1 to 8, then k disks up to the last one, rising; k = 0 is 7
+unfoldable pub block : ℕ → Parser ℕ
+block high = do
+  k ← number
+  require (not (eqb k 0)) 7
+  require (leb k 8) 6
+  ds ← climb k 0 high
+  pure (maskOf ds)
+
+-- kind 2, the unit, its tenancy (no tenancy is 0), settings (N = 0 means none yet), Q
+unfoldable pub heading : ℕ → ℕ → ℕ → Parser ℕ
+heading unit t n = do
+  exactly 2 3
+  exactly unit 4
+  tenancy t
+  require (ltb 0 n) 10
+  inside 0 1024
+
+-- the heading, Q blocks, and the end of the sheet
+unfoldable pub requestSheet : ℕ → ℕ → ℕ → Parser (List ℕ)
+requestSheet unit t n = whole do
+  q ← heading unit t n
+  times q (block (lastDisk n))

@@ -1,0 +1,271 @@
+// The read request: its reader and its writer.
+use field::Field;
+use field::Refusal;
+use field::Written;
+ghost use mathlib.Core.Path.{_≡_};
+ghost use Prim.Native.Nat.{ℕ, _+_, _^_, _≤_, _<_};
+ghost use lib.ListN.{length};
+ghost use Rattle.number.specs.Encode.{encode};
+ghost use Rattle.field.specs.Field.{climb, whole};
+ghost use Rattle.field.specs.Put.{spellAll};
+ghost use Rattle.field.specs.Put.{Written as Wrote};
+ghost use Rattle.field.specs.Refusal.{numberOf};
+ghost use Rattle.field.specs.Send.{Sent, sheet};
+ghost use Rattle.field.specs.Sheet.{refused, times};
+ghost use Rattle.field.specs.Told.{told};
+ghost use Rattle.request.specs.Disks.{disksOf};
+ghost use Rattle.request.specs.Draft.{blockBytes, headingBytes, requestBytes, requestDraft, Counted, Sized};
+ghost use Rattle.request.specs.Request.{lastDisk, block, heading, requestSheet};
+ghost use Rattle.request.specs.Told.{toldCopies, Answered, masked};
+
+// What a reader of requests answers: the block count Q, or the refusal.
+pub enum Answer {
+    Accepted(usize),
+    Refused(Refusal),
+}
+
+// The answer, and a number of copies for each block, bit d standing for disk d: 0 from Q on, and all 0 on refusal.
+pub struct Request {
+    pub answer: Answer,
+    pub copies: [u64; 1024],
+}
+
+// What reading one block gives: its copies and the place after it, or the refusal.
+enum Copies {
+    Got(u64, usize),
+    Refused(Refusal),
+}
+
+// The last disk of a unit; no number of copies holds a disk above 63.
+fn last(disks: u32) -> u32
+    ensures { λ r. ⌜ r ≡ lastDisk disks ⌝ }
+{
+    if 64 <= disks {
+        return 63;
+    }
+    if disks == 0 {
+        return 0;
+    }
+    disks - 1
+}
+
+// So many disk numbers, each above the one before it, put into m.
+fn gather(s: &[u8], at: usize, left: u32, floor: u32, high: u32, m: u64) -> Copies
+    requires { ⌜ (high ≤ 63) × (m < 2 ^ floor) ⌝ }
+    ensures { λ r. ⌜ toldCopies r ≡ masked m (climb left floor high (now (s .entry)) at) ⌝ }
+{
+    if left == 0 {
+        return Copies::Got(m, at);
+    }
+    match field::risen(s, at, floor, high) {
+        Field::Got(d, next) => {
+            let more = mask::set(m, d as usize);
+            gather(s, next, left - 1, d + 1, high, more)
+        }
+        Field::Refused(e) => Copies::Refused(e),
+    }
+}
+
+// One block at a place: its copy count, and its disks up to the last one.
+fn one_block(s: &[u8], at: usize, high: u32) -> Copies
+    requires { ⌜ high ≤ 63 ⌝ }
+    ensures { λ r. ⌜ toldCopies r ≡ block high (now (s .entry)) at ⌝ }
+{
+    match field::any(s, at) {
+        Field::Got(k, next) => {
+            if k == 0 {
+                return Copies::Refused(Refusal::NoCopies);
+            }
+            if 8 < k {
+                return Copies::Refused(Refusal::Range);
+            }
+            gather(s, next, k, 0, high, 0)
+        }
+        Field::Refused(e) => Copies::Refused(e),
+    }
+}
+
+// A refusal, with all copies 0.
+fn refuse(e: Refusal) -> Request
+    ensures { λ r. ⌜ ((len : ℕ) → Answered len (refused (numberOf e)) r) ⌝ }
+{
+    let copies = [0u64; 1024];
+    Request {
+        answer: Answer::Refused(e),
+        copies,
+    }
+}
+
+// The blocks from a place on, and the end of the sheet.
+fn blocks(s: &[u8], at: usize, q: usize, high: u32) -> Request
+    requires { ⌜ (q ≤ 1024) × (high ≤ 63) ⌝ }
+    ensures { λ r. ⌜ Answered (length (now (s .entry))) (whole (times q (block high)) (now (s .entry)) at) r ⌝ }
+{
+    let mut copies = [0u64; 1024];
+    let mut p = at;
+    let mut i: usize = 0;
+    while i < q {
+        match one_block(s, p, high) {
+            Copies::Got(m, next) => {
+                copies[i] = m;
+                p = next;
+            }
+            Copies::Refused(e) => {
+                return refuse(e);
+            }
+        }
+        i += 1;
+    }
+    match field::finish(s, p) {
+        Field::Got(_, _) => Request {
+            answer: Answer::Accepted(q),
+            copies,
+        },
+        Field::Refused(e) => refuse(e),
+    }
+}
+
+// The fields before the blocks: Q and the place after it.
+fn opening(s: &[u8], unit: u32, tenancy: u32, disks: u32) -> Field
+    ensures { λ r. ⌜ told r ≡ heading unit tenancy disks (now (s .entry)) 0 ⌝ }
+{
+    let kind = field::exact(s, 0, 2, Refusal::Kind);
+    let Field::Got(_, a) = kind else {
+        return kind;
+    };
+    let number = field::exact(s, a, unit, Refusal::Unit);
+    let Field::Got(_, b) = number else {
+        return number;
+    };
+    let tenant = field::tenant(s, b, tenancy);
+    let Field::Got(_, c) = tenant else {
+        return tenant;
+    };
+    if disks == 0 {
+        return Field::Refused(Refusal::NoSettings);
+    }
+    field::ranged(s, c, 0, 1024)
+}
+
+// Reads a request for a unit, its tenancy (0: not rented) and its N (0: no settings yet).
+pub fn read(s: &[u8], unit: u32, tenancy: u32, disks: u32) -> Request
+    ensures { λ r. ⌜ Answered (length (now (s .entry))) (requestSheet unit tenancy disks (now (s .entry)) 0) r ⌝ }
+{
+    match opening(s, unit, tenancy, disks) {
+        Field::Got(q, at) => blocks(s, at, q as usize, last(disks)),
+        Field::Refused(e) => refuse(e),
+    }
+}
+
+// The bytes of all blocks, or why the first bad block is refused: no copies, more than eight, or a disk at N or above.
+fn size(copies: &[u64], disks: usize) -> Written
+    requires { ⌜ (disks ≤ 64) × (length (now copies) ≤ 1024) ⌝ }
+    ensures { λ r. ⌜ Sized disks (now (copies .entry)) r ⌝ }
+{
+    let known = mask::below(disks);
+    let mut total: usize = 0;
+    let mut i: usize = 0;
+    while i < copies.len() {
+        let m = copies[i];
+        if m == 0 {
+            return Written::Refused(Refusal::NoCopies);
+        }
+        let bits = mask::count(m);
+        if 8 < bits {
+            return Written::Refused(Refusal::Range);
+        }
+        if mask::without(m, known) != 0 {
+            return Written::Refused(Refusal::Range);
+        }
+        total += 1 + bits as usize;
+        i += 1;
+    }
+    Written::Length(total)
+}
+
+// Puts the disks of a block, rising.
+fn put_disks(m: u64, out: &mut [u8], at: usize) -> usize
+    requires { ⌜ at + length (spellAll encode (disksOf m)) ≤ length (now out) ⌝ }
+    ensures { λ r. ⌜ Wrote (now (out .entry)) at (spellAll encode (disksOf m)) (now (out .exit)) r ⌝ }
+{
+    let mut p = at;
+    let mut d: u32 = 0;
+    while d < 64 {
+        if mask::test(m, d as usize) {
+            p = field::put(d, out, p);
+        }
+        d += 1;
+    }
+    p
+}
+
+// Puts a block: its copy count and its disks.
+fn put_block(m: u64, out: &mut [u8], at: usize) -> usize
+    requires { ⌜ at + length (blockBytes m) ≤ length (now out) ⌝ }
+    ensures { λ r. ⌜ Wrote (now (out .entry)) at (blockBytes m) (now (out .exit)) r ⌝ }
+{
+    let p = field::put(mask::count(m), out, at);
+    put_disks(m, out, p)
+}
+
+// Puts block after block.
+fn put_blocks(copies: &[u64], out: &mut [u8], at: usize) -> usize
+    requires { ⌜ at + length (spellAll blockBytes (now copies)) ≤ length (now out) ⌝ }
+    ensures { λ r. ⌜ Wrote (now (out .entry)) at (spellAll blockBytes (now (copies .entry))) (now (out .exit)) r ⌝ }
+{
+    let mut p = at;
+    let mut i: usize = 0;
+    while i < copies.len() {
+        p = put_block(copies[i], out, p);
+        i += 1;
+    }
+    p
+}
+
+// Puts the fields before the blocks.
+fn put_heading(unit: u32, tenancy: u32, q: u32, out: &mut [u8]) -> usize
+    requires { ⌜ length (headingBytes unit tenancy q) ≤ length (now out) ⌝ }
+    ensures { λ r. ⌜ Wrote (now (out .entry)) 0 (headingBytes unit tenancy q) (now (out .exit)) r ⌝ }
+{
+    let a = field::put(2, out, 0);
+    let b = field::put(unit, out, a);
+    let c = field::put(tenancy, out, b);
+    field::put(q, out, c)
+}
+
+// Writes a request whose blocks take n bytes and can all be sent; the length is found first.
+fn send(unit: u32, tenancy: u32, copies: &[u64], n: usize, out: &mut [u8]) -> Written
+    requires { ⌜ Counted (now copies) n ⌝ }
+    ensures { λ r. ⌜ Sent (sheet (requestBytes unit tenancy (now (copies .entry)))) (now (out .entry)) r (now (out .exit)) ⌝ }
+{
+    let q = copies.len() as u32;
+    let length = 1 + number::width(unit) + number::width(tenancy) + number::width(q) + n;
+    if out.len() < length {
+        return Written::Refused(Refusal::NoRoom);
+    }
+    let p = put_heading(unit, tenancy, q, out);
+    let e = put_blocks(copies, out, p);
+    Written::Length(e)
+}
+
+// Writes a request for a unit of so many disks, from a number of copies for each block.
+pub fn write(unit: u32, tenancy: u32, disks: u32, copies: &[u64], out: &mut [u8]) -> Written
+    ensures { λ r. ⌜ Sent (requestDraft unit tenancy disks (now (copies .entry))) (now (out .entry)) r (now (out .exit)) ⌝ }
+{
+    if tenancy == 0 {
+        return Written::Refused(Refusal::Range);
+    }
+    if disks == 0 {
+        return Written::Refused(Refusal::Range);
+    }
+    if 64 < disks {
+        return Written::Refused(Refusal::Range);
+    }
+    if 1024 < copies.len() {
+        return Written::Refused(Refusal::Range);
+    }
+    match size(copies, disks as usize) {
+        Written::Length(n) => send(unit, tenancy, copies, n, out),
+        Written::Refused(e) => Written::Refused(e),
+    }
+}

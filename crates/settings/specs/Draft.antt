@@ -1,0 +1,40 @@
+-- The settings sheet that the writer makes.
+use Prim.Native.Nat.{ℕ}
+use mathlib.Core.Bool.{Bool, _&&_}
+use mathlib.Core.List.{List, [], _∷_, _++_}
+use lib.ListN.{length}
+use lib.Dec.{eqb, leb, ltb}
+use Rattle.number.specs.Choice.{pick}
+use Rattle.number.specs.Encode.{encode}
+use Rattle.field.specs.Put.{spellAll}
+use Rattle.field.specs.Send.{Draft, sheet, none}
+use Rattle.settings.specs.declared.Row.{Row}
+use Rattle.settings.specs.Row.{disk, allInRange, rowBytes}
+
+-- the rows of three lists
+unfoldable pub rowsOf : List ℕ → List ℕ → List ℕ → List Row
+rowsOf [] ls ds = []
+rowsOf (c ∷ cs) [] ds = []
+rowsOf (c ∷ cs) (l ∷ ls) [] = []
+rowsOf (c ∷ cs) (l ∷ ls) (d ∷ ds) = disk c l d ∷ rowsOf cs ls ds
+
+-- the bytes of the fields before the rows
+unfoldable pub headBytes : ℕ → ℕ → ℕ → List ℕ
+headBytes unit t n = encode 1 ++ (encode unit ++ (encode t ++ encode n))
+
+-- the bytes of a sheet
+unfoldable pub sheetBytes : ℕ → ℕ → List Row → List ℕ
+sheetBytes unit t rows = headBytes unit t (length rows) ++ spellAll rowBytes rows
+
+-- whether the lists are of one length
+unfoldable pub even : List ℕ → List ℕ → List ℕ → Bool
+even cs ls ds = eqb (length ls) (length cs) && eqb (length ds) (length cs)
+
+-- 6 for tenancy 0, lists of unequal length, N outside 1 to 64, a cost, load or delay out of range
+unfoldable pub settingsDraft : ℕ → ℕ → List ℕ → List ℕ → List ℕ → Draft
+settingsDraft unit t cs ls ds =
+    pick (ltb 0 t && even cs ls ds)
+    (pick (leb 1 (length cs) && (leb (length cs) 64 && allInRange (rowsOf cs ls ds)))
+    (sheet (sheetBytes unit t (rowsOf cs ls ds)))
+    (none 6))
+    (none 6)

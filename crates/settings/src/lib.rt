@@ -1,0 +1,268 @@
+// The settings sheet: kind 1, unit, tenancy, disk count N, then for each disk its cost, load and delay.
+use field::Field;
+use field::Refusal;
+use field::Written;
+ghost use mathlib.Core.Path.{_≡_};
+ghost use Prim.Native.Nat.{_+_, _≤_};
+ghost use lib.ListN.{length};
+ghost use Rattle.field.specs.Field.{whole};
+ghost use Rattle.field.specs.Put.{spellAll, Written as Put};
+ghost use Rattle.field.specs.Send.{Sent};
+ghost use Rattle.field.specs.Told.{told};
+ghost use Rattle.settings.specs.Row.{disk, row, rowBytes};
+ghost use Rattle.settings.specs.Table.{noTable};
+ghost use Rattle.settings.specs.Sheet.{settingsSheet};
+ghost use Rattle.settings.specs.Told.{Told};
+ghost use Rattle.settings.specs.Draft.{rowsOf, headBytes, settingsDraft};
+ghost use Rattle.settings.specs.Parts.{refusedWith, toldRow, heading, rowsTable, rowWidth, rowsWidth, draftWidth};
+
+// One disk: the cost of a block, the load when a request comes, the delay.
+pub struct Row {
+    pub cost: u32,
+    pub load: u32,
+    pub delay: u32,
+}
+
+// N disks; the rows from N on are 0.
+pub struct Table {
+    pub disks: u32,
+    pub rows: [Row; 64],
+}
+
+pub enum Answer {
+    Accepted,
+    Refused(Refusal),
+}
+
+// What reading a sheet gives; on refusal the table is empty.
+pub struct Settings {
+    pub answer: Answer,
+    pub table: Table,
+}
+
+// One row and the place after it, or the refusal.
+enum RowRead {
+    Got(Row, usize),
+    Refused(Refusal),
+}
+
+// No settings yet: N is 0, all rows are 0.
+pub fn empty() -> Table
+    ensures { λ r. ⌜ r ≡ noTable ⌝ }
+{
+    let zero = Row {
+        cost: 0,
+        load: 0,
+        delay: 0,
+    };
+    Table {
+        disks: 0,
+        rows: [zero; 64],
+    }
+}
+
+// A refused sheet leaves no table.
+fn refuse(refusal: Refusal) -> Settings
+    ensures { λ r. ⌜ r ≡ refusedWith refusal ⌝ }
+{
+    let table = empty();
+    Settings {
+        answer: Answer::Refused(refusal),
+        table,
+    }
+}
+
+// A row at a place.
+fn row_at(s: &[u8], at: usize) -> RowRead
+    ensures { λ r. ⌜ toldRow r ≡ row (now (s .entry)) at ⌝ }
+{
+    match field::ranged(s, at, 1, 1_000_000) {
+        Field::Got(cost, second) => match field::ranged(s, second, 0, 100_000_000) {
+            Field::Got(load, third) => match field::ranged(s, third, 0, 1_000_000) {
+                Field::Got(delay, next) => RowRead::Got(Row { cost, load, delay }, next),
+                Field::Refused(e) => RowRead::Refused(e),
+            },
+            Field::Refused(e) => RowRead::Refused(e),
+        },
+        Field::Refused(e) => RowRead::Refused(e),
+    }
+}
+
+// The fields before the rows: kind, unit, tenancy, and N as the value.
+fn head(s: &[u8], unit: u32, tenancy: u32) -> Field
+    ensures { λ r. ⌜ told r ≡ heading unit tenancy (now (s .entry)) 0 ⌝ }
+{
+    match field::exact(s, 0, 1, Refusal::Kind) {
+        Field::Got(_, second) => match field::exact(s, second, unit, Refusal::Unit) {
+            Field::Got(_, third) => match field::tenant(s, third, tenancy) {
+                Field::Got(_, fourth) => field::ranged(s, fourth, 1, 64),
+                Field::Refused(e) => Field::Refused(e),
+            },
+            Field::Refused(e) => Field::Refused(e),
+        },
+        Field::Refused(e) => Field::Refused(e),
+    }
+}
+
+// The rows of `disks` disks from a place on, and then the end of the sheet.
+fn body(s: &[u8], start: usize, disks: u32) -> Settings
+    requires { ⌜ disks ≤ 64 ⌝ }
+    ensures { λ r. ⌜ Told (length (now (s .entry))) (whole (rowsTable disks) (now (s .entry)) start) r ⌝ }
+{
+    let none = empty();
+    let mut rows = none.rows;
+    let mut at = start;
+    let n = disks as usize;
+    let mut i = 0;
+    while i < n {
+        match row_at(s, at) {
+            RowRead::Got(r, next) => {
+                rows[i] = r;
+                at = next;
+            }
+            RowRead::Refused(e) => {
+                return refuse(e);
+            }
+        }
+        i += 1;
+    }
+    match field::finish(s, at) {
+        Field::Got(_, _) => Settings {
+            answer: Answer::Accepted,
+            table: Table { disks, rows },
+        },
+        Field::Refused(e) => refuse(e),
+    }
+}
+
+// Reads a settings sheet for a unit and its tenancy; 0 stands for no tenancy.
+pub fn read(s: &[u8], unit: u32, tenancy: u32) -> Settings
+    ensures { λ r. ⌜ Told (length (now (s .entry))) (settingsSheet unit tenancy (now (s .entry)) 0) r ⌝ }
+{
+    match head(s, unit, tenancy) {
+        Field::Got(disks, at) => body(s, at, disks),
+        Field::Refused(e) => refuse(e),
+    }
+}
+
+// The bytes of a row, or 0 where a value is out of its range.
+fn row_width(cost: u32, load: u32, delay: u32) -> usize
+    ensures { λ r. ⌜ r ≡ rowWidth (disk cost load delay) ⌝ }
+{
+    if cost < 1 {
+        return 0;
+    }
+    if 1_000_000 < cost {
+        return 0;
+    }
+    if 100_000_000 < load {
+        return 0;
+    }
+    if 1_000_000 < delay {
+        return 0;
+    }
+    number::width(cost) + number::width(load) + number::width(delay)
+}
+
+// The bytes of all rows, or 0 where a value is out of its range.
+fn rows_width(costs: &[u32], loads: &[u32], delays: &[u32]) -> usize
+    requires { ⌜ (length (now loads) ≡ length (now costs)) × (length (now delays) ≡ length (now costs)) ⌝ }
+    requires { ⌜ length (now costs) ≤ 64 ⌝ }
+    ensures { λ r. ⌜ r ≡ rowsWidth (rowsOf (now (costs .entry)) (now (loads .entry)) (now (delays .entry))) ⌝ }
+{
+    let mut total = 0;
+    let mut i = 0;
+    while i < costs.len() {
+        let w = row_width(costs[i], loads[i], delays[i]);
+        if w == 0 {
+            return 0;
+        }
+        total += w;
+        i += 1;
+    }
+    total
+}
+
+// Puts a row at a place and answers the place after it.
+fn put_row(cost: u32, load: u32, delay: u32, out: &mut [u8], at: usize) -> usize
+    requires { ⌜ at + length (rowBytes (disk cost load delay)) ≤ length (now out) ⌝ }
+    ensures { λ r. ⌜ Put (now (out .entry)) at (rowBytes (disk cost load delay)) (now (out .exit)) r ⌝ }
+{
+    let second = field::put(cost, out, at);
+    let third = field::put(load, out, second);
+    field::put(delay, out, third)
+}
+
+// Puts all rows from a place on and answers the place after them.
+fn put_rows(costs: &[u32], loads: &[u32], delays: &[u32], out: &mut [u8], start: usize) -> usize
+    requires { ⌜ (length (now loads) ≡ length (now costs)) × (length (now delays) ≡ length (now costs)) ⌝ }
+    requires { ⌜ start + length (spellAll rowBytes (rowsOf (now costs) (now loads) (now delays))) ≤ length (now out) ⌝ }
+    ensures { λ r. ⌜ Put (now (out .entry)) start (spellAll rowBytes (rowsOf (now (costs .entry)) (now (loads .entry)) (now (delays .entry)))) (now (out .exit)) r ⌝ }
+{
+    let mut at = start;
+    let mut i = 0;
+    while i < costs.len() {
+        at = put_row(costs[i], loads[i], delays[i], out, at);
+        i += 1;
+    }
+    at
+}
+
+// Puts the fields before the rows and answers the place after them.
+fn put_head(unit: u32, tenancy: u32, disks: u32, out: &mut [u8]) -> usize
+    requires { ⌜ length (headBytes unit tenancy disks) ≤ length (now out) ⌝ }
+    ensures { λ r. ⌜ Put (now (out .entry)) 0 (headBytes unit tenancy disks) (now (out .exit)) r ⌝ }
+{
+    let second = field::put(1, out, 0);
+    let third = field::put(unit, out, second);
+    let fourth = field::put(tenancy, out, third);
+    field::put(disks, out, fourth)
+}
+
+// The bytes of the sheet, or 0 where it is none.
+fn sheet_width(unit: u32, tenancy: u32, costs: &[u32], loads: &[u32], delays: &[u32]) -> usize
+    ensures { λ r. ⌜ r ≡ draftWidth (settingsDraft unit tenancy (now (costs .entry)) (now (loads .entry)) (now (delays .entry))) ⌝ }
+{
+    if tenancy == 0 {
+        return 0;
+    }
+    if loads.len() != costs.len() {
+        return 0;
+    }
+    if delays.len() != costs.len() {
+        return 0;
+    }
+    if costs.len() < 1 {
+        return 0;
+    }
+    if 64 < costs.len() {
+        return 0;
+    }
+    let rows = rows_width(costs, loads, delays);
+    if rows == 0 {
+        return 0;
+    }
+    2 + number::width(unit) + number::width(tenancy) + rows
+}
+
+// Writes a settings sheet of the disks' costs, loads and delays.
+pub fn write(
+    unit: u32,
+    tenancy: u32,
+    costs: &[u32],
+    loads: &[u32],
+    delays: &[u32],
+    out: &mut [u8],
+) -> Written
+    ensures { λ r. ⌜ Sent (settingsDraft unit tenancy (now (costs .entry)) (now (loads .entry)) (now (delays .entry))) (now (out .entry)) r (now (out .exit)) ⌝ }
+{
+    let length = sheet_width(unit, tenancy, costs, loads, delays);
+    if length == 0 {
+        return Written::Refused(Refusal::Range);
+    }
+    if out.len() < length {
+        return Written::Refused(Refusal::NoRoom);
+    }
+    let at = put_head(unit, tenancy, costs.len() as u32, out);
+    Written::Length(put_rows(costs, loads, delays, out, at))
+}

@@ -1,0 +1,68 @@
+-- What holds of every unit: it holds of a new one, and each call keeps it.
+use mathlib.Core.Path.{_≡_, refl, sym, ap, _∙_, subst}
+use mathlib.Core.Bool.{Bool, true, false, _&&_}
+use mathlib.Core.List.{List}
+use Prim.Native.Nat.{ℕ, _≤_, _<_}
+use native.Mathlib.Omega.{arith}
+use borrow.Author.Tests.{ltb-true, eqb-true}
+use lib.Dec.{eqb, ltb}
+use Rattle.number.specs.Choice.{pick}
+use Rattle.number.proofs.Choice.{pick-elim}
+use Rattle.field.specs.Field.{number, tenancy}
+use Rattle.field.specs.Sheet.{Out, got, _>>_, pure, require}
+use Rattle.field.specs.Sheet.{refused as refusedSheet}
+use Rattle.settings.specs.declared.Table.{Table}
+use Rattle.settings.specs.Sheet.{settingsSheet}
+use Rattle.settings.specs.Table.{noTable, Filled}
+use Rattle.settings.proofs.Accepted.{accepted-filled, none-filled, sheet-steps, SheetGot}
+use Rattle.field.proofs.Sheet.{Step, bind-got, passed}
+use Rattle.unit.specs.declared.Unit.{Unit}
+use Rattle.unit.specs.Life.{Outcome, takes, refuses, rent, settled, set, giveBack}
+use Rattle.unit.specs.Sound.{Sound}
+use Rattle.unit.specs.Unit.{newUnit, tenancyOf, tenanted, withTable, returned}
+use Rattle.unit.proofs.Lives.{tenancy-free}
+
+pub sound-new : (n : ℕ) → Sound (newUnit n)
+unfolding newUnit
+sound-new n = record { tenancy = λ h. absurd (let z : _≡_ {A = ℕ} 0 1 = cc in omega arith); cleared = λ _. refl; filled = none-filled }
+
+-- a sheet is accepted for a tenancy only, and no tenancy is 0
+tenancy-some : (want : ℕ) (s : List ℕ) (at v e : ℕ) → tenancy want s at ≡ got v e → 0 < want
+unfolding tenancy
+tenancy-some want s at v e h =
+    let w : Step (number s at) (λ x n. (require (eqb x want) 5 >> (require (ltb 0 x) 5 >> pure x)) s n) v e = bind-got number s at v e (λ x. require (eqb x want) 5 >> (require (ltb 0 x) 5 >> pure x)) h in
+    let g : (eqb (w .found) want ≡ true) × ((require (ltb 0 (w .found)) 5 >> pure (w .found)) s (w .mid) ≡ got v e) = passed _ 5 _ s (w .mid) v e (w .last) in
+    let k : (ltb 0 (w .found) ≡ true) × (pure (w .found) s (w .mid) ≡ got v e) = passed _ 5 _ s (w .mid) v e (g .1) in
+    omega (arith, eqb-true (w .found) want (g .0), ltb-true 0 (w .found) (k .0))
+
+module _ (u : Unit) (w : Sound u) where
+  pub sound-rent : (t : ℕ) → Sound (rent u t .unit)
+  unfolding rent takes refuses tenanted
+  sound-rent t =
+      pick-elim (λ (o : Outcome). Sound (o .unit)) (u .rented) _ _ (λ _. w) λ f.
+      pick-elim (λ (o : Outcome). Sound (o .unit)) (ltb (u .last) t) _ _
+      (λ l. record { tenancy = λ _. omega (arith, ltb-true (u .last) t l); cleared = λ h. absurd (let z : _≡_ {A = ℕ} 0 1 = cc in omega arith); filled = none-filled })
+      (λ _. w)
+
+  pub sound-back : (t : ℕ) → Sound (giveBack u t .unit)
+  unfolding giveBack takes refuses returned
+  sound-back t =
+      pick-elim (λ (o : Outcome). Sound (o .unit)) (u .rented && eqb t (u .last)) _ _
+      (λ _. record { tenancy = λ h. absurd (let z : _≡_ {A = ℕ} 0 1 = cc in omega arith); cleared = λ _. refl; filled = none-filled })
+      (λ _. w)
+
+  -- what a settings sheet said, whatever it was
+  settled-sound : (s : List ℕ) (o : Out Table) → settingsSheet (u .number) (tenancyOf u) s 0 ≡ o → Sound (settled u o .unit)
+  unfolding settled takes refuses withTable
+  settled-sound s (refusedSheet n) h = w
+  settled-sound s (got T e) h =
+      let k : SheetGot (u .number) (tenancyOf u) s T e = sheet-steps (u .number) (tenancyOf u) s T e h in
+      record {
+        tenancy = w .tenancy;
+        cleared = λ f. absurd (omega (arith, tenancy-free u f, tenancy-some (tenancyOf u) s (k .third) (k .tenant) (k .fourth) (k .tenancy-got)));
+        filled = accepted-filled (u .number) (tenancyOf u) s T e h .0;
+      }
+
+  pub sound-set : (s : List ℕ) → Sound (set u s .unit)
+  unfolding set
+  sound-set s = settled-sound s (settingsSheet (u .number) (tenancyOf u) s 0) refl

@@ -1,0 +1,27 @@
+-- The two lists are cut to what was found.
+use borrow.Author.Needs.{needs}
+use native.Mathlib.Omega.{arith}
+use lib.Seq.{length-take-le}
+use mathlib.Core.Path.{sym}
+use Rattle.unit.proofs.send.Statement.{statement}
+use Rattle.unit.proofs.send.Tie as tie
+
+slice-aggregate-write : tie.Need-slice-aggregate-write
+slice-aggregate-write c = sym (length-take-le _ _ (omega arith))
+
+slice-aggregate-write-2 : tie.Need-slice-aggregate-write-2
+slice-aggregate-write-2 c = sym (length-take-le _ _ (omega arith))
+
+write-requires : tie.Need-write-requires
+write-requires c κs = search needs
+
+same-length : tie.Need-same-length
+same-length c = search needs
+
+returns : tie.Need-returns
+returns c = c .before .before .write .ensures
+
+pub send-spec : {M : Type 1} → statement M
+send-spec =
+    tie.close
+    (tie.spec slice-aggregate-write slice-aggregate-write-2 write-requires same-length returns)

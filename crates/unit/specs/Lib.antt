@@ -1,0 +1,6 @@
+pub mod Unit
+pub mod Life
+pub mod Told
+pub mod Sound
+pub mod Request
+pub mod Calls
