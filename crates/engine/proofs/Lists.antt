@@ -2,7 +2,7 @@
 --     Copied         the entries below b are those of another list, the rest is as it was
 --     Listing        the blocks below b that pass the test are listed, rising
 use Prim.Native.Nat.{ℕ, _+_, _≤_, _<_}
-use mathlib.Core.Path.{_≡_, refl, sym, ap, subst, _∙_}
+use mathlib.Core.Path.{_≡_, refl, sym, ap, _∙_}
 use mathlib.Core.Bool.{Bool, true, false, _||_}
 use mathlib.Core.List.{List}
 use native.Mathlib.Omega.{arith}
@@ -14,6 +14,7 @@ use borrow.Author.Tests.{ltb-true, ltb-false, eqb-true, eqb-false, eq-eqb, ne-eq
 use Rattle.model.specs.Count.{any}
 use Rattle.model.proofs.Bool.{by-cases, differ, or-right, not-here}
 use Rattle.model.proofs.Sum.{any-ext, any-some}
+use Rattle.order.proofs.Spreads.{below-step}
 use Rattle.engine.specs.Planned.{listed, Rising}
 use Rattle.engine.specs.Steps.{Loaded, Stored}
 
@@ -92,11 +93,6 @@ module _ (S : ℕ → Bool) (short₀ : List ℕ) where
       }
 
   module _ (b m : ℕ) (short : List ℕ) (s : Listing b S short₀ short m) where
-    -- a block below b + 1 is below b, or is b
-    step : (C : ℕ → Type 0) → ((c : ℕ) → c < b → C c) → C b → (c : ℕ) → c < b + 1 → C c
-    step C f x c l =
-        by-cases (eqb c b) (λ t. subst C (sym (eqb-true c b t)) x) (λ t. f c (let z = eqb-false c b t in omega arith))
-
     pub listing-skip : S b ≡ false → Listing (b + 1) S short₀ short m
     unfolding listed
     listing-skip e =
@@ -108,7 +104,7 @@ module _ (S : ℕ → Bool) (short₀ : List ℕ) where
             short-rest = s .set .short-rest;
             short-long = s .set .short-long;
           };
-          same = step (λ c. listed short m c ≡ S c) (s .same)
+          same = below-step b (λ c. listed short m c ≡ S c) (s .same)
               (any-false m (λ i. eqb (getD short i 0) b) (λ i l. ne-eqb (getD short i 0) b (λ z. omega (arith, z, s .set .below i l))) ∙ sym e);
         }
 
@@ -134,7 +130,7 @@ module _ (S : ℕ → Bool) (short₀ : List ℕ) where
             short-rest = λ i l. else i (omega arith) ∙ s .set .short-rest i (omega arith);
             short-long = length-set short m b ∙ s .set .short-long;
           };
-          same = step (λ c. listed (write short m b) (m + 1) c ≡ S c)
+          same = below-step b (λ c. listed (write short m b) (m + 1) c ≡ S c)
               (λ c l. any-next m (λ i. eqb (getD (write short m b) i 0) c)
               ∙ or-false (any m (λ i. eqb (getD (write short m b) i 0) c)) (eqb (getD (write short m b) m 0) c)
               (ne-eqb (getD (write short m b) m 0) c (λ z. omega (arith, z, here, l)))

@@ -1,4 +1,7 @@
 -- What the steps of the engine take and leave.
+--     Loaded, Stored, Listed    copies into an array; places and blocks into the lent buffers
+--     Blank                     what the search for the time starts from
+--     Named, Sorted             the short set and the first schedule, in the lent buffers
 use Prim.Native.Nat.{ℕ, _-_, _≤_, _<_}
 use mathlib.Core.Path.{_≡_}
 use mathlib.Core.List.{List}

@@ -1,6 +1,8 @@
 pub mod Sheet
+pub mod Values
 pub mod Readers
 pub mod Puts
+pub mod Spell
 pub mod Read
 pub mod Spelt
 pub mod Unique

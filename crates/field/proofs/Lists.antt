@@ -2,7 +2,6 @@
 --     prefix                what was read, then the rest
 --     times-start, times-step, times-stop, times-done     a loop over i of n readings
 --     climb-start, climb-step, climb-stop, climb-done     the same, each number above the one before it
---     All, Rises            each value has a property; the values rise, from a floor up to a last one
 --     reads-times, reads-climb      reading what was written
 --     times-spelt, climb-spelt      the bytes of what was read
 use mathlib.Core.Path.{_≡_, refl, sym, ap, _∙_, subst}
@@ -15,6 +14,7 @@ use Rattle.number.specs.Bytes.{Bytes}
 use Rattle.number.specs.Encode.{encode}
 use Rattle.field.specs.Sheet.{Out, got, refused, Parser, andThen, _>>=_, _>>_, pure, require, times}
 use Rattle.field.specs.Field.{rising, climb}
+use Rattle.field.specs.Lists.{All, Rises}
 use Rattle.field.specs.Put.{spellAll}
 use Rattle.field.proofs.Sheet.{next, stops, Step, bind-got, pure-got}
 use Rattle.field.proofs.Read.{Reads, reads-bind, reads-checked, reads-pure, reads-rising}
@@ -101,14 +101,6 @@ module _ (high : ℕ) (s : List ℕ) where
       ap (λ (m : ℕ). prefix xs (climb m floor high s at)) k ∙ ap (λ z. got z at) (append-nil xs)
 
 -- ---- reading what was written
-
-unfoldable pub All : {A : Type 0} → (A → Type 0) → List A → Type 0
-All P [] = Unit
-All P (a ∷ rest) = P a × All P rest
-
-unfoldable pub Rises : ℕ → ℕ → List ℕ → Type 0
-Rises floor high [] = Unit
-Rises floor high (v ∷ vs) = (floor ≤ v) × (v ≤ high) × Rises (v + 1) high vs
 
 pub reads-times : {A : Type 0} (p : Parser A) (spell : A → List ℕ) (P : A → Type 0) → ((a : A) → P a → Reads p (spell a) a) → (vs : List A) → All P vs → Reads (times (length vs) p) (spellAll spell vs) vs
 unfolding times spellAll All

@@ -1,6 +1,7 @@
 -- Laws of fields put into a lent buffer.
 --     put-past, put-of     what one field leaves
 --     written-none, written-more     these bytes from here on, all else as it was: no field yet, and one more
+--     written-length, written-join, put-one, written-as     the buffer's length; bytes behind bytes; one field; other names
 use mathlib.Core.Path.{_≡_, refl, sym, ap, _∙_}
 use mathlib.Core.List.{List, [], _∷_, _++_, append-assoc}
 use Prim.Native.Nat.{ℕ, _+_, _-_, _≤_, _<_}
@@ -67,7 +68,7 @@ unfolding paste
 length-paste out at bs h = simp (length-append, length-drop) (omega (arith, length-take-le at out (omega arith)))
 
 -- bytes behind bytes
-paste-paste : (out : List ℕ) (at : ℕ) (bs cs : List ℕ) → at + length bs + length cs ≤ length out → paste (paste out at bs) (at + length bs) cs ≡ paste out at (bs ++ cs)
+pub paste-paste : (out : List ℕ) (at : ℕ) (bs cs : List ℕ) → at + length bs + length cs ≤ length out → paste (paste out at bs) (at + length bs) cs ≡ paste out at (bs ++ cs)
 unfolding paste
 paste-paste out at bs cs h =
     let n : length (take at out ++ bs) ≡ at + length bs = length-append (take at out) bs ∙ ap (λ (k : ℕ). k + length bs) (length-take-le at out (omega arith)) in
@@ -109,6 +110,28 @@ written-more {out} {at} {bs} {mid} {p} {v} {next} {after} w f h =
           ∙ paste-paste out at bs (encode v) (omega (arith, w .place));
       place = f .place ∙ sym (r .place) ∙ omega (arith, length-append bs (encode v), w .place);
     }
+
+-- ---- bytes behind bytes
+
+pub written-length : {out : List ℕ} {at : ℕ} {bs after : List ℕ} {next : ℕ} → Written out at bs after next → length after ≡ length out
+written-length {out} {at} {bs} w = ap length (w .held) ∙ length-paste out at bs (w .fit)
+
+pub written-join : {out : List ℕ} {at : ℕ} {bs mid : List ℕ} {p : ℕ} {cs after : List ℕ} {next : ℕ} → Written out at bs mid p → Written mid p cs after next → Written out at (bs ++ cs) after next
+written-join {out} {at} {bs} {mid} {p} {cs} {after} {next} f g =
+    let same : length mid ≡ length out = written-length f in
+    record {
+      fit = omega (arith, g .fit, f .place, length-append bs cs);
+      held = g .held ∙ ap (λ (k : ℕ). paste mid k cs) (f .place) ∙ ap (λ (x : List ℕ). paste x (at + length bs) cs) (f .held)
+          ∙ paste-paste out at bs cs (omega (arith, g .fit, f .place));
+      place = omega (arith, g .place, f .place, length-append bs cs);
+    }
+
+pub put-one : {v : ℕ} {out : List ℕ} {at next : ℕ} {after : List ℕ} → Put v out at next after → at + widthOf v ≤ length out → Written out at (encode v) after next
+put-one {v} {out} {at} f h = written-more (written-none out at (omega arith)) f h
+
+-- the same under other names
+pub written-as : {out : List ℕ} {at : ℕ} {bs after after′ : List ℕ} {next next′ : ℕ} → after′ ≡ after → next′ ≡ next → Written out at bs after next → Written out at bs after′ next′
+written-as e q w = record { fit = w .fit; held = e ∙ w .held; place = q ∙ w .place }
 
 -- what was written lies within the part
 pub wrote-fits : (v : ℕ) (out : List ℕ) (n : ℕ) (ys : List ℕ) → Wrote v out n ys → n ≤ length out

@@ -21,7 +21,8 @@ use Rattle.number.proofs.RoundTrip.{Begins, decode-exact}
 use Rattle.number.proofs.Choice.{pick-true, pick-false, either}
 use Rattle.field.specs.Sheet.{Out, got, refused, Parser, _>>=_, _>>_, pure, require}
 use Rattle.field.specs.Field.{taken, number, exactly, tenancy, inside, rising, end, whole}
-use Rattle.field.proofs.Sheet.{Step, bind-got, after-got, passed, pure-got}
+use Rattle.field.proofs.Sheet.{Step, bind-got, after-got, pure-got}
+use Rattle.field.proofs.Values.{one-test, two-tests}
 
 pub record Spelt (s : List ℕ) (at e : ℕ) (bs : List ℕ) : Type 0 where
   pub within : e ≤ length s
@@ -66,21 +67,6 @@ number-spelt s at v e b h =
     )
 
 -- ---- a number that passed its checks
-
-one-test : (t : ℕ → Bool) (m : ℕ) (s : List ℕ) (at v e : ℕ) → (number >>= λ x. require (t x) m >> pure x) s at ≡ got v e → (number s at ≡ got v e) × (t v ≡ true)
-one-test t m s at v e h =
-    let w : Step (number s at) (λ x n. (require (t x) m >> pure x) s n) v e = bind-got number s at v e (λ x. require (t x) m >> pure x) h in
-    let g : (t (w .found) ≡ true) × (pure (w .found) s (w .mid) ≡ got v e) = passed _ m _ s (w .mid) v e (w .last) in
-    let p : (w .found ≡ v) × (w .mid ≡ e) = pure-got _ _ s _ _ (g .1) in
-    (w .first ∙ ap (λ (x : ℕ). got x (w .mid)) (p .0) ∙ ap (got v) (p .1), ap t (sym (p .0)) ∙ g .0)
-
-two-tests : (t u : ℕ → Bool) (m n : ℕ) (s : List ℕ) (at v e : ℕ) → (number >>= λ x. require (t x) m >> (require (u x) n >> pure x)) s at ≡ got v e → (number s at ≡ got v e) × (t v ≡ true) × (u v ≡ true)
-two-tests t u m n s at v e h =
-    let w : Step (number s at) (λ x k. (require (t x) m >> (require (u x) n >> pure x)) s k) v e = bind-got number s at v e (λ x. require (t x) m >> (require (u x) n >> pure x)) h in
-    let g : (t (w .found) ≡ true) × ((require (u (w .found)) n >> pure (w .found)) s (w .mid) ≡ got v e) = passed _ m _ s (w .mid) v e (w .last) in
-    let k : (u (w .found) ≡ true) × (pure (w .found) s (w .mid) ≡ got v e) = passed _ n _ s (w .mid) v e (g .1) in
-    let p : (w .found ≡ v) × (w .mid ≡ e) = pure-got _ _ s _ _ (k .1) in
-    (w .first ∙ ap (λ (x : ℕ). got x (w .mid)) (p .0) ∙ ap (got v) (p .1), ap t (sym (p .0)) ∙ g .0, ap u (sym (p .0)) ∙ k .0)
 
 module _ (s : List ℕ) (at v e : ℕ) (b : Bytes s) where
   pub exactly-spelt : (want n : ℕ) → exactly want n s at ≡ got v e → Spelt s at e (encode v) × (v ≡ want)

@@ -2,5 +2,6 @@ pub mod Refusal
 pub mod Sheet
 pub mod Field
 pub mod Told
+pub mod Lists
 pub mod Put
 pub mod Send

@@ -16,28 +16,20 @@ use Rattle.mask.specs.Has.{has}
 use Rattle.model.specs.Assignment.{reads, Valid, Within}
 use Rattle.model.specs.Shortfall.{touches}
 use Rattle.model.specs.Closed.{Closed}
-use Rattle.model.proofs.Bool.{by-cases, differ, and-left, and-right, and-both, or-elim, or-left, or-right}
+use Rattle.model.proofs.Bool.{by-cases, differ, and-left, and-both, or-elim, or-left, or-right}
 use Rattle.model.proofs.Sum.{count-some, any-here, any-some}
 use Rattle.model.proofs.Duality.{valid-partial}
 use Rattle.model.proofs.Closed.{closed-greatest, greatest-closed}
 use Rattle.places.specs.Places.{entry, holds}
 use Rattle.places.proofs.Laws.{reads-here}
 use Rattle.timing.specs.Among.{among}
-use Rattle.timing.proofs.Sums.{inside-has, has-inside}
+use Rattle.timing.proofs.Sums.{inside-has, has-inside, among-touched}
 use Rattle.order.specs.Sorting.{Owned, Graves, LowestAt}
 use Rattle.order.specs.Turn.{Spread}
 
 module _ (n q : ℕ) (cut caps : List ℕ) (few : n ≤ 64) (small : (b d : ℕ) → b < q → holds cut b d ≡ true → d < n) where
-  S : ℕ → ℕ → Bool
-  S x = among cut x
-
   reached : (x d : ℕ) → touches q (holds cut) (among cut x) d ≡ true → has x d ≡ true
-  unfolding touches
-  reached x d t =
-      let s = any-some q (λ b. among cut x b && holds cut b d) t in
-      let h = and-right (among cut x (s .0)) (holds cut (s .0) d) (s .2) in
-      inside-has (getD cut (s .0) 0) x d (omega (arith, few, small (s .0) d (s .1) h))
-      (and-left (among cut x (s .0)) (holds cut (s .0) d) (s .2)) h
+  reached x = among-touched n q x cut few small
 
   module _ (a : ℕ → ℕ) (v : Valid n q (holds cut) a) (w : Within n q (entry caps) a) (x : ℕ) where
     owned-closed : Owned n q cut caps a x → Closed n q (holds cut) (entry caps) a (among cut x)

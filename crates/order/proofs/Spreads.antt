@@ -12,6 +12,11 @@ use Rattle.mask.specs.Has.{has}
 use Rattle.model.proofs.Bool.{by-cases, differ}
 use Rattle.order.specs.Turn.{Spread}
 
+-- a fact of the numbers below b + 1 from those below b, and b
+pub below-step : (b : ℕ) (C : ℕ → Type 0) → ((c : ℕ) → c < b → C c) → C b → (c : ℕ) → c < b + 1 → C c
+below-step b C f x c l =
+    by-cases (eqb c b) (λ t. subst C (sym (eqb-true c b t)) x) (λ t. f c (let z = eqb-false c b t in omega arith))
+
 -- the disks below d are told
 pub record Told (d x : ℕ) (dead₀ dead : List ℕ) : Type 0 where
   pub done : Spread d x dead₀ dead
@@ -26,18 +31,13 @@ module _ (x : ℕ) (dead₀ : List ℕ) where
       }
 
   module _ (d : ℕ) (dead : List ℕ) (s : Told d x dead₀ dead) where
-    -- a fact of the disks below d + 1 from those below d, and d
-    step : (C : ℕ → Type 0) → ((o : ℕ) → o < d → C o) → C d → (o : ℕ) → o < d + 1 → C o
-    step C f c o l =
-        by-cases (eqb o d) (λ t. subst C (sym (eqb-true o d t)) c) (λ t. f o (let z = eqb-false o d t in omega arith))
-
     pub told-keep : has x d ≡ true → Told (d + 1) x dead₀ dead
     told-keep t =
         record {
           done = record {
             long = s .done .long;
-            same = step (λ o. has x o ≡ true → getD dead o 0 ≡ getD dead₀ o 0) (s .done .same) (λ _. s .beyond d (omega arith));
-            more = step (λ o. has x o ≡ false → (e : ℕ) → has (getD dead o 0) e ≡ (has (getD dead₀ o 0) e || has x e))
+            same = below-step d (λ o. has x o ≡ true → getD dead o 0 ≡ getD dead₀ o 0) (s .done .same) (λ _. s .beyond d (omega arith));
+            more = below-step d (λ o. has x o ≡ false → (e : ℕ) → has (getD dead o 0) e ≡ (has (getD dead₀ o 0) e || has x e))
                 (s .done .more) (λ f. absurd (differ t f));
           };
           beyond = λ o l. s .beyond o (omega arith);
@@ -50,9 +50,9 @@ module _ (x : ℕ) (dead₀ : List ℕ) where
         record {
           done = record {
             long = length-set dead d r ∙ s .done .long;
-            same = step (λ o. has x o ≡ true → getD (set dead d r) o 0 ≡ getD dead₀ o 0)
+            same = below-step d (λ o. has x o ≡ true → getD (set dead d r) o 0 ≡ getD dead₀ o 0)
                 (λ o l u. other o (omega arith) ∙ s .done .same o l u) (λ u. absurd (differ u t));
-            more = step (λ o. has x o ≡ false → (e : ℕ) → has (getD (set dead d r) o 0) e ≡ (has (getD dead₀ o 0) e || has x e))
+            more = below-step d (λ o. has x o ≡ false → (e : ℕ) → has (getD (set dead d r) o 0) e ≡ (has (getD dead₀ o 0) e || has x e))
                 (λ o l u e. ap (λ (y : ℕ). has y e) (other o (omega arith)) ∙ s .done .more o l u e)
                 (λ u e. ap (λ (y : ℕ). has y e) (getD-set-same dead d r 0 h) ∙ f e
                 ∙ ap (λ (y : ℕ). has y e || has x e) (s .beyond d (omega arith)));

@@ -1,4 +1,8 @@
--- What the steps of the order leave.
+-- What the steps of the order take and leave.
+--     Trying, Tried       one block asked for lower disks: it went there (Went), or stayed (Stayed)
+--     Spread              disks found dead, told to all others
+--     Lowered, Done       a block lower than before or lowest; a block that is done
+--     Possible, Ordered   the schedules within the capacities; the first of them
 use Prim.Native.Nat.{ℕ, _+_, _<_}
 use mathlib.Core.Path.{_≡_}
 use mathlib.Core.Bool.{Bool, true, false, _||_}
@@ -35,6 +39,7 @@ pub record Stayed (n q k lower : ℕ) (cut caps at loads cut′ at′ loads′ :
   pub apart : has x (getD at k 0) ≡ false
   pub part : Inside lower x
 
+-- one of the two, by the answer
 unfoldable pub Tried : ℕ → ℕ → ℕ → ℕ → List ℕ → List ℕ → List ℕ → List ℕ → List ℕ → List ℕ → List ℕ → Hit → Type 0
 Tried n q k lower cut caps at loads cut′ at′ loads′ (Free d) = Went n q k lower cut caps cut′ at′ loads′
 Tried n q k lower cut caps at loads cut′ at′ loads′ (Short x) = Stayed n q k lower cut caps at loads cut′ at′ loads′ x

@@ -1,4 +1,7 @@
--- What the search and its callers leave, by the case of their answer.
+-- What the search and its callers take and leave, by the case of their answer.
+--     Seeking, Sought     the search: a way to a disk that has room, or the reached disks
+--     Ready, Improved     one block more on a disk (More), or nothing changed and the reached disks (Blocked)
+--     Filled              as many blocks as there is room for
 use Prim.Native.Nat.{ℕ, _+_, _≤_, _<_}
 use mathlib.Core.Path.{_≡_}
 use mathlib.Core.Bool.{true}

@@ -1,8 +1,11 @@
 -- The search over disks and displaced blocks.
+--     Open             the disks that have room
 --     Inside           every disk of one mask is in another
 --     Linked, Settled  a block that belongs to the search; one that brings it no new disk
+--     Brings, Chosen, Scanned   what the leaves of the search answer
 --     Label, Tree      how a disk was reached: by a block that is on none, or on a disk reached sooner
 --     Way, Stuck       the two outcomes: a labelled way to a disk, or reached disks that are full and closed
+--     Pulled           what the way back along the labels leaves
 use Prim.Native.Nat.{ℕ, _+_, _≤_, _<_}
 use mathlib.Core.Path.{_≡_}
 use mathlib.Core.Logic.{_⊎_}

@@ -8,7 +8,8 @@ use Rattle.number.specs.Encode.{encode, widthOf}
 use Rattle.field.specs.Put.{spellAll, Put, Written}
 use Rattle.field.proofs.Puts.{written-none, written-more}
 use Rattle.plan.specs.Adds.{Adds}
-use Rattle.plan.proofs.Spell.{spell-append, spell-put, take-next, take-whole}
+use Rattle.field.proofs.Spell.{spell-append}
+use Rattle.plan.proofs.Spell.{spell-put, take-next, take-whole}
 
 pub adds-none : (mid : List ℕ) (at : ℕ) → Adds [] mid at mid at
 unfolding spellAll
@@ -31,7 +32,7 @@ module _ {xs first mid after : List ℕ} {at p next : ℕ} (a : Adds xs first at
     add = λ out done w h.
         let bs : List ℕ = spellAll encode xs in
         let cs : List ℕ = spellAll encode ys in
-        let e : (done ++ bs) ++ cs ≡ done ++ spellAll encode (xs ++ ys) = append-assoc done bs cs ∙ ap (λ (z : List ℕ). done ++ z) (sym (spell-append xs ys)) in
+        let e : (done ++ bs) ++ cs ≡ done ++ spellAll encode (xs ++ ys) = append-assoc done bs cs ∙ ap (λ (z : List ℕ). done ++ z) (sym (spell-append encode xs ys)) in
         let m : length ((done ++ bs) ++ cs) ≡ length (done ++ spellAll encode (xs ++ ys)) = ap length e in
         let g : Written out 0 (done ++ bs) mid p = a .add out done w (omega (arith, length-append (done ++ bs) cs)) in
         subst (λ (z : List ℕ). Written out 0 z after next) e (b .add out (done ++ bs) g (omega arith));

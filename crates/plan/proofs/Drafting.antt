@@ -19,14 +19,14 @@ use Rattle.plan.specs.Draft.{planNumbers, planBytes, counted, planDraft}
 use Rattle.plan.specs.Adds.{Adds}
 use Rattle.plan.proofs.Adding.{adds-all}
 use Rattle.plan.proofs.Receiving.{both, either-false, first-false}
-use Rattle.plan.proofs.Spell.{spell-append}
+use Rattle.field.proofs.Spell.{spell-append}
 
 module _ (unit t : ℕ) (p : Plan) where
   -- the widths of its numbers
   pub bytes-length : widthOf 3 + widthOf unit + widthOf t + widthOf (length (p .disks)) + widthOf (p .time) + length (spellAll encode (p .disks)) + widthOf (length (p .short)) + length (spellAll encode (p .short)) ≡ length (planBytes unit t p)
   unfolding planBytes planNumbers spellAll widthOf
   bytes-length =
-      let e : spellAll encode (p .disks ++ (length (p .short) ∷ p .short)) ≡ spellAll encode (p .disks) ++ (encode (length (p .short)) ++ spellAll encode (p .short)) = spell-append (p .disks) (length (p .short) ∷ p .short) in
+      let e : spellAll encode (p .disks ++ (length (p .short) ∷ p .short)) ≡ spellAll encode (p .disks) ++ (encode (length (p .short)) ++ spellAll encode (p .short)) = spell-append encode (p .disks) (length (p .short) ∷ p .short) in
       sym (simp (length-append, e) (omega arith))
 
   -- its length, as it is found

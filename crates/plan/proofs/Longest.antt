@@ -12,7 +12,7 @@ use Rattle.number.proofs.Encode.{width-one, width-more, width-bounds}
 use Rattle.field.specs.Put.{spellAll}
 use Rattle.field.specs.Sheet.{got}
 use Rattle.field.specs.Send.{Draft, answerTo}
-use Rattle.field.proofs.Lists.{All, Rises}
+use Rattle.field.specs.Lists.{All, Rises}
 use Rattle.plan.specs.Plan.{Plan}
 use Rattle.plan.specs.Range.{InRange}
 use Rattle.plan.specs.Draft.{planBytes, planDraft}

@@ -21,7 +21,8 @@ use Rattle.field.specs.Send.{Draft, sheet, toldWritten, answerTo, leftBy, Sent}
 use Rattle.field.proofs.Sheet.{Step, bind-got, after-got, pure-got}
 use Rattle.field.proofs.Read.{Reads, reads-bind, reads-then, reads-checked, reads-pure, reads-exactly, reads-tenancy, reads-inside, reads-whole}
 use Rattle.field.proofs.Spelt.{Spelt, spelt-join, spelt-whole, whole-got, exactly-spelt, tenancy-spelt, inside-spelt}
-use Rattle.field.proofs.Lists.{All, Rises, reads-times, reads-climb, times-spelt, climb-spelt}
+use Rattle.field.specs.Lists.{All, Rises}
+use Rattle.field.proofs.Lists.{reads-times, reads-climb, times-spelt, climb-spelt}
 use Rattle.plan.specs.Plan.{Plan, ifAny, timeOf, sizeOf, openingOf, listsOf, planFields, planSheet}
 use Rattle.plan.specs.Range.{InRange}
 use Rattle.plan.specs.Receive.{over, Received}
@@ -30,7 +31,7 @@ use Rattle.plan.specs.declared.Head.{Head}
 use Rattle.plan.specs.declared.Answer.the-variants.{Accepted}
 use Rattle.plan.proofs.Drafting.{draft}
 use Rattle.plan.proofs.Receiving.{Took, took}
-use Rattle.plan.proofs.Spell.{spell-append}
+use Rattle.field.proofs.Spell.{spell-append}
 
 -- a bound for no blocks is no larger
 any-most : (q n : ℕ) → ifAny q n ≤ n
@@ -50,7 +51,7 @@ module _ (unit t : ℕ) (p : Plan) where
   bytes-parts : openingBytes unit t ++ (encode (length (p .disks)) ++ (encode (p .time) ++ listsBytes p)) ≡ planBytes unit t p
   unfolding planBytes planNumbers spellAll openingBytes listsBytes
   bytes-parts =
-      let e : spellAll encode (p .disks ++ (length (p .short) ∷ p .short)) ≡ listsBytes p = spell-append (p .disks) (length (p .short) ∷ p .short) in
+      let e : spellAll encode (p .disks ++ (length (p .short) ∷ p .short)) ≡ listsBytes p = spell-append encode (p .disks) (length (p .short) ∷ p .short) in
       simp append-assoc (sym (ap (λ (z : List ℕ). encode 3 ++ (encode unit ++ (encode t ++ (encode (length (p .disks)) ++ (encode (p .time) ++ z))))) e))
 
   -- ---- reading after writing

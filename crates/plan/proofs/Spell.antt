@@ -9,17 +9,12 @@ use lib.Seq.{take-suc, take-length}
 use Rattle.number.specs.Encode.{encode, widthOf}
 use Rattle.number.proofs.Encode.{width-bounds}
 use Rattle.field.specs.Put.{spellAll}
-
--- numbers behind numbers
-pub spell-append : (xs ys : List ℕ) → spellAll encode (xs ++ ys) ≡ spellAll encode xs ++ spellAll encode ys
-unfolding spellAll
-spell-append [] ys = refl
-spell-append (x ∷ xs) ys = ap (λ (z : List ℕ). encode x ++ z) (spell-append xs ys) ∙ sym (append-assoc (encode x) (spellAll encode xs) (spellAll encode ys))
+use Rattle.field.proofs.Spell.{spell-append}
 
 -- one number behind the others
 pub spell-put : (xs : List ℕ) (v : ℕ) → spellAll encode (xs ++ (v ∷ [])) ≡ spellAll encode xs ++ encode v
 unfolding spellAll
-spell-put xs v = spell-append xs (v ∷ []) ∙ ap (λ (z : List ℕ). spellAll encode xs ++ z) (append-nil (encode v))
+spell-put xs v = spell-append encode xs (v ∷ []) ∙ ap (λ (z : List ℕ). spellAll encode xs ++ z) (append-nil (encode v))
 
 -- one number more of a list, and all of it
 pub take-next : (xs : List ℕ) (i : ℕ) → i < length xs → take (i + 1) xs ≡ take i xs ++ (getD xs i 0 ∷ [])

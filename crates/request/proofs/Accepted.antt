@@ -1,5 +1,5 @@
 -- What an accepted request says: for those who call the reader.
---     climb-rises, times-all, block-sendable     what is known of values that were read, whatever the bytes
+--     block-sendable                             what is known of a block that was read, whatever the bytes
 --     Accepts, accepted                          what is known of the copies that are handed out
 --     accepted-at, accepted-beyond               the same of one place
 --     refused-sheet                              what a refusal says of the sheet
@@ -18,8 +18,8 @@ use Rattle.field.specs.declared.Refusal.{Refusal}
 use Rattle.field.specs.Refusal.{numberOf}
 use Rattle.field.specs.Sheet.{Out, got, refused, Parser, _>>=_, _>>_, pure, times}
 use Rattle.field.specs.Field.{rising, climb}
-use Rattle.field.proofs.Sheet.{Step, bind-got, pure-got}
-use Rattle.field.proofs.Lists.{All, Rises}
+use Rattle.field.proofs.Values.{climb-rises, times-all, all-at}
+use Rattle.field.specs.Lists.{All, Rises}
 use Rattle.request.specs.declared.Answer.the-variants.{Accepted, Refused}
 use Rattle.request.specs.declared.Request.{Request}
 use Rattle.request.specs.Disks.{maskOf, disksOf}
@@ -27,7 +27,7 @@ use Rattle.request.specs.Request.{lastDisk, block, requestSheet}
 use Rattle.request.specs.Told.{toldAnswer, counted, padded, Answered}
 use Rattle.request.proofs.Disks.{disks-mask, mask-under}
 use Rattle.request.proofs.Writing.{disks-count}
-use Rattle.request.proofs.Reading.{last-few, last-all, last-le, rising-within, Listed, block-got, Whole, sheet-got}
+use Rattle.request.proofs.Reading.{last-few, last-all, last-le, Listed, block-got, Whole, sheet-got}
 use Rattle.request.proofs.Drafting.{Sendable}
 
 -- ---- whatever the bytes
@@ -43,31 +43,6 @@ last-of n z l =
 pub count-of : (m : ℕ) → length (disksOf m) ≡ members 64 m
 unfolding disksOf
 count-of m = disks-count m 64
-
-pub climb-rises : (high : ℕ) (s : List ℕ) (n floor at : ℕ) (vs : List ℕ) (e : ℕ) → climb n floor high s at ≡ got vs e → (length vs ≡ n) × Rises floor high vs
-unfolding climb Rises
-climb-rises high s zero floor at vs e h =
-    let q : ([] ≡ vs) × (at ≡ e) = pure-got [] vs s at e h in
-    subst (λ (z : List ℕ). (length z ≡ 0) × Rises floor high z) (q .0) (refl, tt)
-climb-rises high s (suc n) floor at vs e h =
-    let w : Step (rising floor high s at) (λ v m. (climb n (v + 1) high >>= λ rest. pure (v ∷ rest)) s m) vs e = bind-got (rising floor high) s at vs e (λ v. climb n (v + 1) high >>= λ rest. pure (v ∷ rest)) h in
-    let u : Step (climb n (w .found + 1) high s (w .mid)) (λ rest m. pure (w .found ∷ rest) s m) vs e = bind-got (climb n (w .found + 1) high) s (w .mid) vs e (λ rest. pure (w .found ∷ rest)) (w .last) in
-    let q : (w .found ∷ u .found ≡ vs) × (u .mid ≡ e) = pure-got (w .found ∷ u .found) vs s (u .mid) e (u .last) in
-    let f : (w .found ≤ high) × (floor ≤ w .found) = rising-within floor high s at (w .found) (w .mid) (w .first) in
-    let g : (length (u .found) ≡ n) × Rises (w .found + 1) high (u .found) = climb-rises high s n (w .found + 1) (w .mid) (u .found) (u .mid) (u .first) in
-    subst (λ (z : List ℕ). (length z ≡ suc n) × Rises floor high z) (q .0) (ap suc (g .0), (f .1, f .0, g .1))
-
-pub times-all : {A : Type 0} (p : Parser A) (P : A → Type 0) (s : List ℕ) → ((at : ℕ) (a : A) (e : ℕ) → p s at ≡ got a e → P a) → (n at : ℕ) (vs : List A) (e : ℕ) → times n p s at ≡ got vs e → (length vs ≡ n) × All P vs
-unfolding times All
-times-all p P s one zero at vs e h =
-    let q : ([] ≡ vs) × (at ≡ e) = pure-got [] vs s at e h in
-    subst (λ z. (length z ≡ 0) × All P z) (q .0) (refl, tt)
-times-all p P s one (suc n) at vs e h =
-    let w : Step (p s at) (λ a m. (times n p >>= λ rest. pure (a ∷ rest)) s m) vs e = bind-got p s at vs e (λ a. times n p >>= λ rest. pure (a ∷ rest)) h in
-    let u : Step (times n p s (w .mid)) (λ rest m. pure (w .found ∷ rest) s m) vs e = bind-got (times n p) s (w .mid) vs e (λ rest. pure (w .found ∷ rest)) (w .last) in
-    let q : (w .found ∷ u .found ≡ vs) × (u .mid ≡ e) = pure-got (w .found ∷ u .found) vs s (u .mid) e (u .last) in
-    let g : (length (u .found) ≡ n) × All P (u .found) = times-all p P s one n (w .mid) (u .found) (u .mid) (u .first) in
-    subst (λ z. (length z ≡ suc n) × All P z) (q .0) (ap suc (g .0), (one at (w .found) (w .mid) (w .first), g .1))
 
 -- the copies of a rising list can be sent
 sendable : (n : ℕ) → (n ≡ 0 → ⊥) → n ≤ 64 → (k : ℕ) (ds : List ℕ) → Rises 0 (lastDisk n) ds → length ds ≡ k → (k ≡ 0 → ⊥) → k ≤ 8 → Sendable n (maskOf ds)
@@ -130,12 +105,6 @@ accepted unit t n s q r l a h =
       blocks = subst (All (Sendable n)) (sym front) (b .2);
       beyond = ap (drop q) c ∙ drop-at (w .0) (replicate (1024 - length (w .0)) 0) q (w .2) ∙ ap (λ (k : ℕ). replicate (1024 - k) 0) (w .2);
     }
-
-all-at : {A : Type 0} (P : A → Type 0) (vs : List A) (z : A) (i : ℕ) → All P vs → i < length vs → P (getD vs i z)
-unfolding All
-all-at P [] z i a l = absurd (omega arith)
-all-at P (v ∷ vs) z zero a l = a .0
-all-at P (v ∷ vs) z (suc i) a l = all-at P vs z i (a .1) (omega arith)
 
 -- each block has copies, at most eight, all below N
 pub accepted-at : {unit t n : ℕ} {s : List ℕ} {q : ℕ} {copies : List ℕ} → Accepts unit t n s q copies → (i : ℕ) → i < q → Sendable n (getD copies i 0)

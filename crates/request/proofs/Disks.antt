@@ -17,7 +17,7 @@ use Rattle.number.specs.Choice.{pick}
 use Rattle.number.proofs.Choice.{pick-true, pick-false, either}
 use Rattle.mask.specs.Has.{has}
 use Rattle.mask.proofs.Has.{has-above}
-use Rattle.field.proofs.Lists.{All, Rises}
+use Rattle.field.specs.Lists.{All, Rises}
 use Rattle.request.specs.Disks.{maskOf, disksBelow, disksOf}
 use Rattle.request.proofs.Masks.{has-plus, plus-lt}
 

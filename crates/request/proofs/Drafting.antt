@@ -23,10 +23,11 @@ use Rattle.field.specs.Put.{spellAll}
 use Rattle.field.specs.Put.{Written as Wrote}
 use Rattle.field.specs.Refusal.{numberOf}
 use Rattle.field.specs.Send.{Draft, sheet, none, Sent}
-use Rattle.field.proofs.Lists.{All}
+use Rattle.field.specs.Lists.{All}
 use Rattle.field.proofs.Sends.{sent-fits}
 use Rattle.request.specs.Draft.{blockBytes, headingBytes, requestBytes, checked, requestDraft, Counted, Sized}
-use Rattle.request.proofs.Writing.{block-length, written-length, written-join}
+use Rattle.field.proofs.Puts.{written-length, written-join}
+use Rattle.request.proofs.Writing.{block-length}
 
 -- ---- in field order
 

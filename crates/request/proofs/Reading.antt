@@ -21,6 +21,7 @@ use Rattle.field.specs.Refusal.{numberOf}
 use Rattle.field.specs.Sheet.{Out, got, refused, Parser, andThen, _>>=_, _>>_, pure, require, times}
 use Rattle.field.specs.Field.{number, exactly, tenancy, inside, rising, climb, end, whole}
 use Rattle.field.proofs.Sheet.{next, then, stops, halts, pass, fail, Step, bind-got, after-got, passed, pure-got}
+use Rattle.field.proofs.Values.{inside-range}
 use Rattle.field.proofs.Lists.{prefix, times-start, times-step, times-stop, times-done}
 use Rattle.field.proofs.Spelt.{whole-got}
 use Rattle.request.specs.declared.Answer.the-variants.{Accepted}
@@ -47,25 +48,6 @@ unfolding lastDisk
 last-le n = pick-elim (λ (k : ℕ). k ≤ 63) _ _ _ (λ t. omega (arith, ltb-true n 64 t)) (λ f. omega arith)
 
 -- ---- the disks of a block
-
--- a number that passed two tests
-two-tests : (f g : ℕ → Bool) (m n : ℕ) (s : List ℕ) (at v e : ℕ) → (number >>= λ x. require (f x) m >> (require (g x) n >> pure x)) s at ≡ got v e → (f v ≡ true) × (g v ≡ true)
-two-tests f g m n s at v e h =
-    let w : Step (number s at) (λ x k. (require (f x) m >> (require (g x) n >> pure x)) s k) v e = bind-got number s at v e (λ x. require (f x) m >> (require (g x) n >> pure x)) h in
-    let a : (f (w .found) ≡ true) × ((require (g (w .found)) n >> pure (w .found)) s (w .mid) ≡ got v e) = passed _ m _ s (w .mid) v e (w .last) in
-    let b : (g (w .found) ≡ true) × (pure (w .found) s (w .mid) ≡ got v e) = passed _ n _ s (w .mid) v e (a .1) in
-    let p : (w .found ≡ v) × (w .mid ≡ e) = pure-got _ _ s _ _ (b .1) in
-    (ap f (sym (p .0)) ∙ a .0, ap g (sym (p .0)) ∙ b .0)
-
-pub rising-within : (floor high : ℕ) (s : List ℕ) (at v e : ℕ) → rising floor high s at ≡ got v e → (v ≤ high) × (floor ≤ v)
-unfolding rising
-rising-within floor high s at v e h =
-    let w : (leb v high ≡ true) × (leb floor v ≡ true) = two-tests (λ x. leb x high) (λ x. leb floor x) 6 8 s at v e h in
-    (leb-true v high (w .0), leb-true floor v (w .1))
-
-inside-within : (low high : ℕ) (s : List ℕ) (at v e : ℕ) → inside low high s at ≡ got v e → v ≤ high
-unfolding inside
-inside-within low high s at v e h = leb-true v high (two-tests (λ x. leb low x) (λ x. leb x high) 6 6 s at v e h .1)
 
 -- one disk more among the others
 masked-more : (m v : ℕ) (o : Out (List ℕ)) → masked m (andThen o (λ vs n. got (v ∷ vs) n)) ≡ masked (m + 2 ^ v) o
@@ -226,7 +208,7 @@ heading-got unit t n s q e h =
 
 -- Q is in its range
 pub heading-within : (unit t n : ℕ) (s : List ℕ) {q e : ℕ} → heading unit t n s 0 ≡ got q e → q ≤ 1024
-heading-within unit t n s {q} {e} h = let g : Headed unit t n s q e = heading-got unit t n s q e h in inside-within 0 1024 s (g .c) q e (g .last)
+heading-within unit t n s {q} {e} h = let g : Headed unit t n s q e = heading-got unit t n s q e h in inside-range s (g .c) 0 1024 q e (g .last) .1
 
 -- ---- the blocks
 

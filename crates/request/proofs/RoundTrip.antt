@@ -20,7 +20,8 @@ use Rattle.field.specs.Put.{spellAll}
 use Rattle.field.specs.Send.{sheet}
 use Rattle.field.proofs.Read.{Reads, reads-bind, reads-then, reads-pure, reads-require, reads-tested, reads-checked, reads-number, reads-exactly, reads-tenancy, reads-inside, reads-whole}
 use Rattle.field.proofs.Spelt.{Spelt, spelt-join, spelt-whole, number-spelt, exactly-spelt, tenancy-spelt, inside-spelt}
-use Rattle.field.proofs.Lists.{All, Rises, reads-times, reads-climb, times-spelt, climb-spelt}
+use Rattle.field.specs.Lists.{All, Rises}
+use Rattle.field.proofs.Lists.{reads-times, reads-climb, times-spelt, climb-spelt}
 use Rattle.request.specs.Disks.{maskOf, disksOf}
 use Rattle.request.specs.Request.{lastDisk, block, heading, requestSheet}
 use Rattle.request.specs.Draft.{blockBytes, headingBytes, requestBytes, requestDraft}

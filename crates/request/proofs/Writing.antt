@@ -1,6 +1,6 @@
 -- Laws of writing a request.
---     written-length, written-join, put-one, put-head     bytes behind bytes; one field; the fields before the blocks
---     spell-append, disks-in, disks-out                   the bytes of a list's parts; one place more of a number of copies
+--     put-head                                            the fields before the blocks
+--     disks-in, disks-out                                 one place more of a number of copies
 --     disk-in, disk-out                                   the loop over the disks of a block
 --     block-length, block-put                             the bytes of a block
 --     blocks-room, blocks-more                            the loop over the blocks
@@ -18,50 +18,10 @@ use Rattle.mask.specs.Has.{has}
 use Rattle.mask.specs.Count.{bit, members}
 use Rattle.mask.proofs.Members.{members-le}
 use Rattle.field.specs.Put.{spellAll, paste, Put, Written}
-use Rattle.field.proofs.Puts.{length-paste, written-none, written-more}
+use Rattle.field.proofs.Puts.{written-none, written-more, written-length, written-join, put-one}
+use Rattle.field.proofs.Spell.{spell-append, spell-more}
 use Rattle.request.specs.Disks.{disksBelow, disksOf}
 use Rattle.request.specs.Draft.{blockBytes, headingBytes}
-
--- ---- bytes behind bytes
-
-paste-paste : (out : List ℕ) (at : ℕ) (bs cs : List ℕ) → at + length bs + length cs ≤ length out → paste (paste out at bs) (at + length bs) cs ≡ paste out at (bs ++ cs)
-unfolding paste
-paste-paste out at bs cs h =
-    let n : length (take at out ++ bs) ≡ at + length bs = length-append (take at out) bs ∙ ap (λ (k : ℕ). k + length bs) (length-take-le at out (omega arith)) in
-    let e : take at out ++ (bs ++ drop (at + length bs) out) ≡ (take at out ++ bs) ++ drop (at + length bs) out = sym (append-assoc (take at out) bs (drop (at + length bs) out)) in
-    let sum : at + length bs + length cs ≡ at + length (bs ++ cs) = omega (arith, length-append bs cs) in
-    let before : take (at + length bs) (take at out ++ (bs ++ drop (at + length bs) out)) ≡ take at out ++ bs =
-    ap (take (at + length bs)) e ∙ take-at (take at out ++ bs) (drop (at + length bs) out) (at + length bs) n in
-    let behind : drop (at + length bs + length cs) (take at out ++ (bs ++ drop (at + length bs) out)) ≡ drop (at + length (bs ++ cs)) out =
-    ap (drop (at + length bs + length cs)) e
-    ∙ ap (λ (k : ℕ). drop (k + length cs) ((take at out ++ bs) ++ drop (at + length bs) out)) (sym n)
-    ∙ drop-append-add (take at out ++ bs) (drop (at + length bs) out) (length cs)
-    ∙ drop-drop (length cs) (at + length bs) out
-    ∙ ap (λ (k : ℕ). drop k out) sum in
-    ap (λ (x : List ℕ). x ++ (cs ++ drop (at + length bs + length cs) (take at out ++ (bs ++ drop (at + length bs) out)))) before
-    ∙ ap (λ (x : List ℕ). (take at out ++ bs) ++ (cs ++ x)) behind
-    ∙ append-assoc (take at out) bs (cs ++ drop (at + length (bs ++ cs)) out)
-    ∙ ap (λ (x : List ℕ). take at out ++ x) (sym (append-assoc bs cs (drop (at + length (bs ++ cs)) out)))
-
-pub written-length : {out : List ℕ} {at : ℕ} {bs after : List ℕ} {next : ℕ} → Written out at bs after next → length after ≡ length out
-written-length {out} {at} {bs} w = ap length (w .held) ∙ length-paste out at bs (w .fit)
-
-pub written-join : {out : List ℕ} {at : ℕ} {bs mid : List ℕ} {p : ℕ} {cs after : List ℕ} {next : ℕ} → Written out at bs mid p → Written mid p cs after next → Written out at (bs ++ cs) after next
-written-join {out} {at} {bs} {mid} {p} {cs} {after} {next} f g =
-    let same : length mid ≡ length out = written-length f in
-    record {
-      fit = omega (arith, g .fit, f .place, length-append bs cs);
-      held = g .held ∙ ap (λ (k : ℕ). paste mid k cs) (f .place) ∙ ap (λ (x : List ℕ). paste x (at + length bs) cs) (f .held)
-          ∙ paste-paste out at bs cs (omega (arith, g .fit, f .place));
-      place = omega (arith, g .place, f .place, length-append bs cs);
-    }
-
-pub put-one : {v : ℕ} {out : List ℕ} {at next : ℕ} {after : List ℕ} → Put v out at next after → at + widthOf v ≤ length out → Written out at (encode v) after next
-put-one {v} {out} {at} f h = written-more (written-none out at (omega arith)) f h
-
--- the same under other names
-pub written-as : {out : List ℕ} {at : ℕ} {bs after after′ : List ℕ} {next next′ : ℕ} → after′ ≡ after → next′ ≡ next → Written out at bs after next → Written out at bs after′ next′
-written-as e q w = record { fit = w .fit; held = e ∙ w .held; place = q ∙ w .place }
 
 -- ---- the fields before the blocks
 
@@ -81,11 +41,6 @@ put-head {unit} {t} {q} {o} {o₁} {o₂} {o₃} {o₄} {a} {b} {c} {d} f g h i 
     subst (λ (x : List ℕ). Written o 0 x o₄ d) e w₄
 
 -- ---- the disks of a block
-
-pub spell-append : {A : Type 0} (spell : A → List ℕ) (xs ys : List A) → spellAll spell (xs ++ ys) ≡ spellAll spell xs ++ spellAll spell ys
-unfolding spellAll
-spell-append spell [] ys = refl
-spell-append spell (x ∷ xs) ys = ap (λ (z : List ℕ). spell x ++ z) (spell-append spell xs ys) ∙ sym (append-assoc (spell x) (spellAll spell xs) (spellAll spell ys))
 
 module _ (m : ℕ) where
   pub disks-in : (d : ℕ) → has m d ≡ true → spellAll encode (disksBelow (suc d) m) ≡ spellAll encode (disksBelow d m) ++ encode d
@@ -184,13 +139,6 @@ module _ {A : Type 0} (spell : A → List ℕ) (ms : List A) (i : ℕ) (z : A) (
   spell-split : spellAll spell ms ≡ spellAll spell (take i ms) ++ (spell (getD ms i z) ++ spellAll spell (drop (suc i) ms))
   unfolding spellAll
   spell-split = ap (spellAll spell) (split-at ms i z l) ∙ spell-append spell (take i ms) (getD ms i z ∷ drop (suc i) ms)
-
-  pub spell-more : spellAll spell (take i ms) ++ spell (getD ms i z) ≡ spellAll spell (take (i + 1) ms)
-  unfolding spellAll
-  spell-more =
-      sym (ap (λ (x : List ℕ). spellAll spell (take i ms) ++ x) (append-nil (spell (getD ms i z))))
-      ∙ sym (spell-append spell (take i ms) (getD ms i z ∷ []))
-      ∙ ap (spellAll spell) (sym (take-suc ms i z l) ∙ ap (λ (k : ℕ). take k ms) {x = suc i} {y = i + 1} (omega arith))
 
   pub spell-room : {out : List ℕ} {at p : ℕ} {mid : List ℕ} → Written out at (spellAll spell (take i ms)) mid p → at + length (spellAll spell ms) ≤ length out → p + length (spell (getD ms i z)) ≤ length mid
   spell-room {out} {at} {p} {mid} w h =

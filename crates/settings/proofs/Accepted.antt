@@ -23,7 +23,7 @@ use Rattle.settings.specs.Table.{padded, table, noTable, Filled}
 use Rattle.settings.specs.Sheet.{fields, settingsSheet}
 use Rattle.settings.specs.Told.{tableOf, Told}
 use Rattle.settings.proofs.Ranges.{range-in, both, paired}
-use Rattle.settings.proofs.Reading.{inside-range}
+use Rattle.field.proofs.Values.{inside-range}
 
 -- ---- the fields of a row
 

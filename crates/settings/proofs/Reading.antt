@@ -21,6 +21,7 @@ use Rattle.field.specs.Refusal.{numberOf}
 use Rattle.field.specs.Sheet.{Out, got, refused, Parser, andThen, _>>=_, _>>_, pure, require, times}
 use Rattle.field.specs.Field.{number, exactly, tenancy, inside, end, whole}
 use Rattle.field.proofs.Sheet.{next, then, stops, halts, Step, bind-got, after-got, passed, pure-got}
+use Rattle.field.proofs.Values.{inside-range}
 use Rattle.field.proofs.Lists.{prefix, times-start, times-step, times-stop, times-done}
 use Rattle.settings.specs.declared.Answer.the-variants.{Accepted, Refused}
 use Rattle.settings.specs.declared.Row.{Row}
@@ -83,16 +84,6 @@ module _ (s : List ℕ) (at : ℕ) where
       pub heading-got : {y b z d : ℕ} → exactly unit 4 s a ≡ got y b → tenancy t s b ≡ got z d → heading unit t s at ≡ inside 1 64 s d
       unfolding heading
       heading-got {b = b} g h = then (exactly 1 3) _ s at f ∙ then (exactly unit 4) _ s a g ∙ then (tenancy t) _ s b h
-
-  -- a number that was read is in its range
-  pub inside-range : (low high v e : ℕ) → inside low high s at ≡ got v e → (low ≤ v) × (v ≤ high)
-  unfolding inside
-  inside-range low high v e h =
-      let w : Step (number s at) (λ x n. (require (leb low x) 6 >> (require (leb x high) 6 >> pure x)) s n) v e = bind-got number s at v e _ h in
-      let g : (leb low (w .found) ≡ true) × ((require (leb (w .found) high) 6 >> pure (w .found)) s (w .mid) ≡ got v e) = passed _ 6 _ s (w .mid) v e (w .last) in
-      let k : (leb (w .found) high ≡ true) × (pure (w .found) s (w .mid) ≡ got v e) = passed _ 6 _ s (w .mid) v e (g .1) in
-      let p : (w .found ≡ v) × (w .mid ≡ e) = pure-got _ _ s _ _ (k .1) in
-      (omega (arith, leb-true low (w .found) (g .0), p .0), omega (arith, leb-true (w .found) high (k .0), p .0))
 
 -- N is at most 64
 pub heading-disks : (unit t : ℕ) (s : List ℕ) (at n e : ℕ) → heading unit t s at ≡ got n e → n ≤ 64

@@ -22,7 +22,8 @@ use Rattle.field.specs.Sheet.{got, refused, times}
 use Rattle.field.proofs.Read.{Reads, reads-bind, reads-then, reads-pure, reads-checked, reads-exactly, reads-tenancy, reads-inside, reads-whole}
 use Rattle.field.proofs.Spelt.{Spelt, spelt-join, spelt-whole, exactly-spelt, tenancy-spelt, inside-spelt}
 use Rattle.field.proofs.Sends.{written-injective}
-use Rattle.field.proofs.Lists.{All, reads-times, times-spelt}
+use Rattle.field.specs.Lists.{All}
+use Rattle.field.proofs.Lists.{reads-times, times-spelt}
 use Rattle.settings.specs.declared.Row.{Row}
 use Rattle.settings.specs.declared.Table.{Table}
 use Rattle.settings.specs.Row.{disk, row, inRange, allInRange, rowBytes}

@@ -1,6 +1,6 @@
 -- The rows of three lists, one after another.
 --     length-rows, row-of       how many rows, and each of them
---     spell-more, spell-part    the bytes of one row more, and of the first rows
+--     spell-part                the bytes of the first rows
 --     rows-top, rows-small      ten bytes a row at the most
 --     rows-sized, rows-out      what the width of all rows says
 --     Sized, sized-start, sized-step, sized-stop, sized-done    the loop that finds their length
@@ -15,6 +15,7 @@ use lib.Seq.{take-suc, take-all, split-at, length-take-le}
 use Rattle.number.proofs.Choice.{pick-true, pick-false, pick-elim, either}
 use Rattle.number.proofs.Encode.{width-bounds}
 use Rattle.field.specs.Put.{spellAll}
+use Rattle.field.proofs.Spell.{spell-append, spell-more}
 use Rattle.settings.specs.declared.Row.{Row}
 use Rattle.settings.specs.Row.{disk, inRange, allInRange, rowBytes}
 use Rattle.settings.specs.Draft.{rowsOf}
@@ -47,18 +48,7 @@ row-of (c ∷ cs) (l ∷ ls) (d ∷ ds) (suc i) p q h = row-of cs ls ds i (omega
 
 -- ---- the bytes of rows
 
-spell-append : {A : Type 0} (f : A → List ℕ) (xs ys : List A) → spellAll f (xs ++ ys) ≡ spellAll f xs ++ spellAll f ys
-unfolding spellAll
-spell-append f [] ys = refl
-spell-append f (x ∷ xs) ys = ap (λ (z : List ℕ). f x ++ z) (spell-append f xs ys) ∙ sym (append-assoc (f x) (spellAll f xs) (spellAll f ys))
-
 module _ {A : Type 0} (f : A → List ℕ) (xs : List A) (i : ℕ) where
-  pub spell-more : (d : A) → i < length xs → spellAll f (take (i + 1) xs) ≡ spellAll f (take i xs) ++ f (getD xs i d)
-  unfolding spellAll
-  spell-more d h =
-      ap (λ n. spellAll f (take n xs)) (add-one i) ∙ ap (spellAll f) (take-suc xs i d h) ∙ spell-append f (take i xs) (getD xs i d ∷ [])
-      ∙ ap (λ (z : List ℕ). spellAll f (take i xs) ++ z) (append-nil (f (getD xs i d)))
-
   pub spell-part : length (spellAll f (take i xs)) ≤ length (spellAll f xs)
   spell-part =
       omega (arith, ap length (spell-append f (take i xs) (drop i xs)), length-append (spellAll f (take i xs)) (spellAll f (drop i xs)), ap (λ (z : List A). length (spellAll f z)) (take-append-drop i xs))
@@ -146,7 +136,7 @@ module _ {rows : List Row} {i total : ℕ} (w : Sized rows i total) where
   sized-step {r} {k} h e t q = record {
     below = omega arith;
     good = all-more rows i h (w .good) (ap inRange e ∙ t);
-    count = omega (arith, w .count, q, ap length (spell-more rowBytes rows i (disk 0 0 0) h), length-append (spellAll rowBytes (take i rows)) (rowBytes (getD rows i (disk 0 0 0))), ap (λ x. length (rowBytes x)) e);
+    count = omega (arith, w .count, q, ap length (sym (spell-more rowBytes rows i (disk 0 0 0) h)), length-append (spellAll rowBytes (take i rows)) (rowBytes (getD rows i (disk 0 0 0))), ap (λ x. length (rowBytes x)) e);
   }
 
   pub sized-stop : {r : Row} → i < length rows → getD rows i (disk 0 0 0) ≡ r → inRange r ≡ false → 0 ≡ rowsWidth rows

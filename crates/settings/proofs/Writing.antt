@@ -1,5 +1,4 @@
 -- Laws of the writer.
---     written-join, written-length     bytes behind bytes, and the length of the buffer
 --     put-three, put-four              a row, and the fields before the rows
 --     RowsPut, puts-start, puts-room, puts-step, puts-done      the loop over the rows
 --     sheet-length                     the length of a sheet by its parts
@@ -23,52 +22,15 @@ use Rattle.field.specs.declared.Refusal.the-variants.{Range, NoRoom}
 use Rattle.field.specs.declared.Written.the-variants.{Length, Refused}
 use Rattle.field.specs.Refusal.{numberOf}
 use Rattle.field.specs.Send.{sheet, none, Sent}
-use Rattle.field.proofs.Puts.{length-paste, written-none, written-more}
+use Rattle.field.proofs.Puts.{length-paste, written-none, written-more, written-length, written-join, put-one}
 use Rattle.field.proofs.Sends.{sent-refused, sent-long, sent-fits}
 use Rattle.settings.specs.declared.Row.{Row}
 use Rattle.settings.specs.Row.{disk, allInRange, rowBytes}
 use Rattle.settings.specs.Draft.{rowsOf, headBytes, sheetBytes, even, settingsDraft}
 use Rattle.settings.specs.Parts.{rowsWidth, draftWidth}
 use Rattle.settings.proofs.Ranges.{both, paired}
-use Rattle.settings.proofs.Rows.{length-rows, spell-more, spell-part, no-and, rows-sized, rows-out}
-
--- ---- bytes behind bytes
-
-paste-paste : (out : List ℕ) (at : ℕ) (bs cs : List ℕ) → at + length bs + length cs ≤ length out → paste (paste out at bs) (at + length bs) cs ≡ paste out at (bs ++ cs)
-unfolding paste
-paste-paste out at bs cs h =
-    let n : length (take at out ++ bs) ≡ at + length bs = length-append (take at out) bs ∙ ap (λ (k : ℕ). k + length bs) (length-take-le at out (omega arith)) in
-    let e : take at out ++ (bs ++ drop (at + length bs) out) ≡ (take at out ++ bs) ++ drop (at + length bs) out = sym (append-assoc (take at out) bs (drop (at + length bs) out)) in
-    let sum : at + length bs + length cs ≡ at + length (bs ++ cs) = omega (arith, length-append bs cs) in
-    let before : take (at + length bs) (take at out ++ (bs ++ drop (at + length bs) out)) ≡ take at out ++ bs =
-    ap (take (at + length bs)) e ∙ take-at (take at out ++ bs) (drop (at + length bs) out) (at + length bs) n in
-    let behind : drop (at + length bs + length cs) (take at out ++ (bs ++ drop (at + length bs) out)) ≡ drop (at + length (bs ++ cs)) out =
-    ap (drop (at + length bs + length cs)) e
-    ∙ ap (λ (k : ℕ). drop (k + length cs) ((take at out ++ bs) ++ drop (at + length bs) out)) (sym n)
-    ∙ drop-append-add (take at out ++ bs) (drop (at + length bs) out) (length cs)
-    ∙ drop-drop (length cs) (at + length bs) out
-    ∙ ap (λ (k : ℕ). drop k out) sum in
-    ap (λ (x : List ℕ). x ++ (cs ++ drop (at + length bs + length cs) (take at out ++ (bs ++ drop (at + length bs) out)))) before
-    ∙ ap (λ (x : List ℕ). (take at out ++ bs) ++ (cs ++ x)) behind
-    ∙ append-assoc (take at out) bs (cs ++ drop (at + length (bs ++ cs)) out)
-    ∙ ap (λ (x : List ℕ). take at out ++ x) (sym (append-assoc bs cs (drop (at + length (bs ++ cs)) out)))
-
-module _ {out : List ℕ} {at : ℕ} {bs mid : List ℕ} {p : ℕ} (w : Written out at bs mid p) where
-  pub written-length : length mid ≡ length out
-  written-length = ap length (w .held) ∙ length-paste out at bs (w .fit)
-
-  pub written-join : {cs after : List ℕ} {next : ℕ} → Written mid p cs after next → Written out at (bs ++ cs) after next
-  written-join {cs} {after} {next} u =
-      let l : at + length bs + length cs ≤ length out = omega (arith, u .fit, w .place, written-length) in
-      record {
-        fit = omega (arith, length-append bs cs);
-        held = u .held ∙ ap (λ (k : ℕ). paste mid k cs) (w .place) ∙ ap (λ (x : List ℕ). paste x (at + length bs) cs) (w .held) ∙ paste-paste out at bs cs l;
-        place = omega (arith, u .place, w .place, length-append bs cs);
-      }
-
--- one field
-put-one : {v : ℕ} {out : List ℕ} {at next : ℕ} {after : List ℕ} → Put v out at next after → at + widthOf v ≤ length out → Written out at (encode v) after next
-put-one {v} {out} {at} f h = written-more (written-none out at (omega arith)) f h
+use Rattle.field.proofs.Spell.{spell-more}
+use Rattle.settings.proofs.Rows.{length-rows, spell-part, no-and, rows-sized, rows-out}
 
 -- a field before what follows it
 put-then : {v : ℕ} {out : List ℕ} {at p : ℕ} {mid cs after : List ℕ} {next : ℕ} → Put v out at p mid → at + length (encode v ++ cs) ≤ length out → ((p + length cs ≤ length mid) → Written mid p cs after next) → Written out at (encode v ++ cs) after next
@@ -101,7 +63,7 @@ puts-start rows out start h = record { below = omega arith; done = written-none 
 module _ {rows : List Row} {out : List ℕ} {start : ℕ} {mid : List ℕ} {p i : ℕ} (w : RowsPut rows out start mid p i) where
   module _ (h : i < length rows) {r : Row} (e : getD rows i (disk 0 0 0) ≡ r) where
     more : spellAll rowBytes (take (i + 1) rows) ≡ spellAll rowBytes (take i rows) ++ rowBytes r
-    more = spell-more rowBytes rows i (disk 0 0 0) h ∙ ap (λ x. spellAll rowBytes (take i rows) ++ rowBytes x) e
+    more = sym (spell-more rowBytes rows i (disk 0 0 0) h) ∙ ap (λ x. spellAll rowBytes (take i rows) ++ rowBytes x) e
 
     -- one row more has room
     pub puts-room : start + length (spellAll rowBytes rows) ≤ length out → p + length (rowBytes r) ≤ length mid

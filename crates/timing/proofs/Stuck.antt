@@ -8,7 +8,7 @@
 use Prim.Native.Nat.{ℕ, _+_, _-_, _≤_, _<_}
 use mathlib.Core.Path.{_≡_, sym, ap, _∙_}
 use mathlib.Core.Logic.{inl, inr}
-use mathlib.Core.Bool.{Bool, true, _&&_}
+use mathlib.Core.Bool.{Bool, true}
 use mathlib.Core.List.{List}
 use native.Mathlib.Omega.{arith}
 use lib.Dec.{eqb, leb, ltb}
@@ -22,8 +22,8 @@ use Rattle.model.specs.Case.{capacityAt}
 use Rattle.model.specs.Shortfall.{touches, size, room, Sub, Short, ShortSet}
 use Rattle.model.specs.Closed.{Closed}
 use Rattle.model.specs.Time.{ShortAt}
-use Rattle.model.proofs.Bool.{by-cases, and-left, and-right, same-test, gate-true}
-use Rattle.model.proofs.Sum.{sum-ext, sum-term, count-ext, count-most, count-some, any-some}
+use Rattle.model.proofs.Bool.{by-cases, same-test, gate-true}
+use Rattle.model.proofs.Sum.{sum-ext, sum-term, count-ext, count-most, count-some}
 use Rattle.model.proofs.Capacity.{ends-fits, capacity-grows}
 use Rattle.model.proofs.Duality.{unplaced, partial-valid}
 use Rattle.model.proofs.Closed.{exact, least-closed}
@@ -31,7 +31,7 @@ use Rattle.places.specs.Places.{entry, holds, Placed}
 use Rattle.timing.specs.Table.{caseOf, Capacities, roomOf}
 use Rattle.timing.specs.Among.{among}
 use Rattle.timing.specs.Times.{Awaited, First, FilledAt, Fits, Raised}
-use Rattle.timing.proofs.Sums.{inside-has, has-inside}
+use Rattle.timing.proofs.Sums.{inside-has, has-inside, among-touched}
 
 pub unplaced-count : (n q : ℕ) (masks at loads : List ℕ) → Placed n q masks at loads → unplaced n q (entry at) ≡ getD loads n 0
 unfolding unplaced reads
@@ -64,12 +64,7 @@ module _ (n q : ℕ) (masks costs starts : List ℕ) (t : ℕ) (caps at loads : 
 
   -- a disk that the set touches is reached
   touched : (d : ℕ) → touches q (holds masks) S d ≡ true → has x d ≡ true
-  unfolding touches
-  touched d t′ =
-      let s = any-some q (λ b. among masks x b && holds masks b d) t′ in
-      let h = and-right (among masks x (s .0)) (holds masks (s .0) d) (s .2) in
-      inside-has (getD masks (s .0) 0) x d (omega (arith, f .table .few, f .copies .small (s .0) d (s .1) h))
-      (and-left (among masks x (s .0)) (holds masks (s .0) d) (s .2)) h
+  touched = among-touched n q x masks (f .table .few) (f .copies .small)
 
   pub stuck-closed : Closed n q (holds masks) C (entry at) S
   stuck-closed =

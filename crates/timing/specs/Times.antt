@@ -1,4 +1,8 @@
 -- What the search for the least time takes and leaves.
+--     Awaited, First      the halving: disks that have no room for so many blocks at a time, and a later time of which that still holds just before
+--     Fits, FilledAt      blocks placed within the capacities at a time, as many as there is room for
+--     Raised, Least       a time before which a set is short, and at last with a schedule in that time
+--     ShortDisks          the disks of the short set
 use Prim.Native.Nat.{ℕ, _-_, _≤_, _<_}
 use mathlib.Core.Path.{_≡_}
 use mathlib.Core.Bool.{Bool}

@@ -12,7 +12,7 @@ use lib.ListN.{length, getD, take, drop, replicate, length-take, length-map, len
 use lib.Seq.{getD-take, length-take-le}
 use Rattle.number.proofs.Choice.{either}
 use Rattle.mask.specs.Has.{has}
-use Rattle.field.proofs.Lists.{All, Rises}
+use Rattle.field.specs.Lists.{All, Rises}
 use Rattle.model.specs.Case.{Case, base, Priced, Schedule, HasTime}
 use Rattle.model.specs.Assignment.{Valid}
 use Rattle.model.specs.Count.{any, sum, count, bit}

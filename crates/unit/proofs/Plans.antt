@@ -9,7 +9,7 @@ use lib.Dec.{eqb, leb, ltb}
 use lib.ListN.{length, getD}
 use lib.Seq.{ext-getD}
 use Rattle.number.proofs.Choice.{either}
-use Rattle.field.proofs.Lists.{Rises}
+use Rattle.field.specs.Lists.{Rises}
 use Rattle.model.specs.Case.{Case, base}
 use Rattle.model.specs.Order.{Agree}
 use Rattle.model.specs.Plan.{Plan as Optimal}

@@ -4,18 +4,17 @@ use mathlib.Core.Bool.{Bool, true, false, _&&_}
 use mathlib.Core.List.{List}
 use Prim.Native.Nat.{ℕ, _≤_, _<_}
 use native.Mathlib.Omega.{arith}
-use borrow.Author.Tests.{ltb-true, eqb-true}
+use borrow.Author.Tests.{ltb-true}
 use lib.Dec.{eqb, ltb}
 use Rattle.number.specs.Choice.{pick}
 use Rattle.number.proofs.Choice.{pick-elim}
-use Rattle.field.specs.Field.{number, tenancy}
-use Rattle.field.specs.Sheet.{Out, got, _>>_, pure, require}
+use Rattle.field.specs.Sheet.{Out, got}
 use Rattle.field.specs.Sheet.{refused as refusedSheet}
 use Rattle.settings.specs.declared.Table.{Table}
 use Rattle.settings.specs.Sheet.{settingsSheet}
 use Rattle.settings.specs.Table.{noTable, Filled}
 use Rattle.settings.proofs.Accepted.{accepted-filled, none-filled, sheet-steps, SheetGot}
-use Rattle.field.proofs.Sheet.{Step, bind-got, passed}
+use Rattle.field.proofs.Values.{tenancy-within}
 use Rattle.unit.specs.declared.Unit.{Unit}
 use Rattle.unit.specs.Life.{Outcome, takes, refuses, rent, settled, set, giveBack}
 use Rattle.unit.specs.Sound.{Sound}
@@ -25,15 +24,6 @@ use Rattle.unit.proofs.Lives.{tenancy-free}
 pub sound-new : (n : ℕ) → Sound (newUnit n)
 unfolding newUnit
 sound-new n = record { tenancy = λ h. absurd (let z : _≡_ {A = ℕ} 0 1 = cc in omega arith); cleared = λ _. refl; filled = none-filled }
-
--- a sheet is accepted for a tenancy only, and no tenancy is 0
-tenancy-some : (want : ℕ) (s : List ℕ) (at v e : ℕ) → tenancy want s at ≡ got v e → 0 < want
-unfolding tenancy
-tenancy-some want s at v e h =
-    let w : Step (number s at) (λ x n. (require (eqb x want) 5 >> (require (ltb 0 x) 5 >> pure x)) s n) v e = bind-got number s at v e (λ x. require (eqb x want) 5 >> (require (ltb 0 x) 5 >> pure x)) h in
-    let g : (eqb (w .found) want ≡ true) × ((require (ltb 0 (w .found)) 5 >> pure (w .found)) s (w .mid) ≡ got v e) = passed _ 5 _ s (w .mid) v e (w .last) in
-    let k : (ltb 0 (w .found) ≡ true) × (pure (w .found) s (w .mid) ≡ got v e) = passed _ 5 _ s (w .mid) v e (g .1) in
-    omega (arith, eqb-true (w .found) want (g .0), ltb-true 0 (w .found) (k .0))
 
 module _ (u : Unit) (w : Sound u) where
   pub sound-rent : (t : ℕ) → Sound (rent u t .unit)
@@ -59,7 +49,7 @@ module _ (u : Unit) (w : Sound u) where
       let k : SheetGot (u .number) (tenancyOf u) s T e = sheet-steps (u .number) (tenancyOf u) s T e h in
       record {
         tenancy = w .tenancy;
-        cleared = λ f. absurd (omega (arith, tenancy-free u f, tenancy-some (tenancyOf u) s (k .third) (k .tenant) (k .fourth) (k .tenancy-got)));
+        cleared = λ f. absurd (omega (arith, tenancy-free u f, tenancy-within (tenancyOf u) s (k .third) (k .tenant) (k .fourth) (k .tenancy-got)));
         filled = accepted-filled (u .number) (tenancyOf u) s T e h .0;
       }
 

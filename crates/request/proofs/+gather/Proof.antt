@@ -6,7 +6,8 @@ use mathlib.Core.Path.{sym, _∙_, subst⁻¹}
 use Rattle.field.proofs.Readers.{told-got, told-refused}
 use Rattle.request.specs.Told.{toldCopies}
 use Rattle.request.proofs.Masks.{set-sum, plus-lt, lt-up}
-use Rattle.request.proofs.Reading.{gather-done, gather-step, gather-stop, rising-within}
+use Rattle.field.proofs.Values.{rising-within}
+use Rattle.request.proofs.Reading.{gather-done, gather-step, gather-stop}
 use borrow.Fn.Kinds.{In}
 use borrow.Fn.PlainCycle.{Measures, is, falls, and}
 use Rattle.request.proofs.gather.Reads as gather

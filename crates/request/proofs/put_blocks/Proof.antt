@@ -1,7 +1,8 @@
 -- `put_blocks` meets its contract. The invariant: the bytes of the first i blocks were written, and nothing else.
 use borrow.Author.Needs.{needs}
 use native.Mathlib.Omega.{arith}
-use Rattle.request.proofs.Writing.{spell-room, blocks-more, blocks-all, written-length}
+use Rattle.field.proofs.Puts.{written-length}
+use Rattle.request.proofs.Writing.{spell-room, blocks-more, blocks-all}
 use Rattle.request.specs.Draft.{blockBytes}
 use Rattle.field.proofs.Puts.{written-none}
 use Rattle.field.specs.Put.{spellAll}

@@ -1,7 +1,8 @@
 -- `put_disks` meets its contract. The invariant: the bytes of the disks below d were written, and nothing else.
 use borrow.Author.Needs.{needs}
 use native.Mathlib.Omega.{arith}
-use Rattle.request.proofs.Writing.{disk-in, disk-out, disks-all, written-as, written-length}
+use Rattle.field.proofs.Puts.{written-as, written-length}
+use Rattle.request.proofs.Writing.{disk-in, disk-out, disks-all}
 use Rattle.request.specs.Disks.{disksBelow, disksOf}
 use Rattle.field.proofs.Puts.{written-none}
 use Rattle.field.specs.Put.{spellAll}

@@ -3,7 +3,8 @@ use Prim.Native.Nat.{_-_}
 use borrow.Author.Needs.{needs}
 use lib.ListN.{length}
 use Rattle.settings.specs.Draft.{rowsOf}
-use Rattle.settings.proofs.Writing.{RowsPut, puts-start, puts-room, puts-step, puts-done, written-length}
+use Rattle.field.proofs.Puts.{written-length}
+use Rattle.settings.proofs.Writing.{RowsPut, puts-start, puts-room, puts-step, puts-done}
 use Rattle.settings.proofs.Rows.{rows-below, rows-end, row-of}
 use Rattle.settings.proofs.put_rows.Statement.{statement}
 use Rattle.settings.proofs.put_rows.Tie as tie

@@ -1,0 +1,141 @@
+-- What the promises mean to a caller.
+--     written-taken           what a caller takes out of a writer's answer
+--     plan-taken, set-taken   what it takes out of the plan reader's answer, and out of the bytes of the short set
+--     settings-of-numbers, request-of-numbers     lists laid out as bytes give the sheets of those lists
+use mathlib.Core.Path.{_≡_, refl, sym, ap, _∙_, subst}
+use mathlib.Core.Bool.{Bool, true, false, _||_}
+use mathlib.Core.List.{List, [], _∷_}
+use Prim.Native.Nat.{ℕ, _*_, _%_, _^_, _≤_, _<_}
+use native.Mathlib.Omega.{arith}
+use native.Mathlib.Nat.{mul-mod-right}
+use borrow.Author.Tests.{le-ltb}
+use lib.Dec.{lit<}
+use lib.ListN.{length, take}
+use Rattle.number.specs.Choice.{pick}
+use Rattle.number.proofs.Choice.{pick-false, pick-elim}
+use Rattle.field.specs.Put.{spellAll}
+use Rattle.field.specs.Send.{Draft, sheet, none, answerTo}
+use Rattle.field.specs.Sheet.{Out, got, refused}
+use Rattle.field.specs.Lists.{All}
+use Rattle.settings.specs.Draft.{settingsDraft}
+use Rattle.settings.proofs.Writing.{draft-either}
+use Rattle.request.specs.Draft.{checked, requestDraft}
+use Rattle.plan.specs.Plan.{Plan, planSheet}
+use Rattle.plan.specs.Receive.{heads, over}
+use Rattle.desk.specs.Numbers.{bytesOf, numbers, broken}
+use Rattle.desk.specs.Packed.{packWritten, writerAnswer, readerAnswer, refusalIn, lengthIn}
+use Rattle.desk.specs.Desk.{settingsDraftOfBytes, requestDraftOfBytes, Wrote, planOf, setLeft, PlanRead}
+use Rattle.desk.proofs.Numbers.{spell-length, numbers-spell}
+use Rattle.desk.proofs.Over.{over-front}
+use Rattle.desk.proofs.Packed.{Unpacked, written-unpacks, plan-unpacks, refusal-unpacks}
+use Rattle.desk.proofs.Reading.{InRange, plan-of-small}
+use Rattle.desk.proofs.Writing.{settings-short, request-short}
+
+-- ---- the writers' answer
+
+-- a length below 2 ^ 32, or a refusal below 2 ^ 8
+unfoldable pub Answerable : Draft → Type 0
+Answerable (sheet bs) = length bs < 2 ^ 32
+Answerable (none e) = e < 2 ^ 8
+
+-- the length and no refusal, or the refusal and no length
+unfoldable pub Taken : Out Unit → ℕ → Type 0
+Taken (got u n) r = (refusalIn r ≡ 0) × (lengthIn r ≡ n)
+Taken (refused e) r = (refusalIn r ≡ e) × (lengthIn r ≡ 0)
+
+taken-of : (d : Draft) (out : List ℕ) → Answerable d → Taken (answerTo d out) (writerAnswer (answerTo d out))
+unfolding Answerable Taken answerTo writerAnswer
+taken-of (none e) out h = let u : _ = refusal-unpacks e h in (u .0, u .1)
+taken-of (sheet bs) out h =
+    pick-elim (λ (o : Out Unit). Taken o (writerAnswer o)) _ _ _
+    (λ _. let u : _ = written-unpacks (length bs) h in (u .1, u .2))
+    (λ _. let u : _ = refusal-unpacks 11 (lit< tt) in (u .0, u .1))
+
+pub written-taken : (d : Draft) (out : List ℕ) (r : ℕ) (after : List ℕ) → Answerable d → Wrote d out r after → Taken (answerTo d out) r
+written-taken d out r after h w = subst (Taken (answerTo d out)) (sym (w .answer)) (taken-of d out h)
+
+-- every draft of the two writers is answerable
+Low : Draft → Type 0
+Low d = (e : ℕ) → d ≡ none e → e < 2 ^ 8
+
+draft-answerable : (d : Draft) → ((bs : List ℕ) → d ≡ sheet bs → length bs < 2 ^ 32) → Low d → Answerable d
+unfolding Answerable Low
+draft-answerable (sheet bs) f g = f bs refl
+draft-answerable (none e) f g = g e refl
+
+pub settings-answerable : (unit t : ℕ) (costs loads delays : List ℕ) → Answerable (settingsDraftOfBytes unit t costs loads delays)
+unfolding settingsDraftOfBytes Answerable
+settings-answerable unit t costs loads delays =
+    pick-elim Answerable _ _ _ (λ _. lit< tt)
+    (λ _.
+    draft-either unit t (numbers 4 costs) (numbers 4 loads) (numbers 4 delays)
+    (λ n. subst Answerable (sym n) (lit< tt))
+    (λ w. subst Answerable (sym (w .is)) (settings-short unit t (numbers 4 costs) (numbers 4 loads) (numbers 4 delays) _ (w .is))))
+
+six : Answerable (none 6)
+unfolding Answerable
+six = lit< tt
+
+low-none : (k : ℕ) → k < 2 ^ 8 → Low (none k)
+unfolding Low
+low-none k h e q = let n : k ≡ e = cc in omega (arith, n)
+
+low-pick : (b : Bool) (k : ℕ) (d : Draft) → k < 2 ^ 8 → Low d → Low (pick b (none k) d)
+low-pick b k d h l = pick-elim Low b (none k) d (λ _. low-none k h) (λ _. l)
+
+low-sheet : (bs : List ℕ) → Low (sheet bs)
+unfolding Low
+low-sheet bs e q = absurd (let z : _≡_ {A = ℕ} 0 1 = cc in omega arith)
+
+low-checked : (n : ℕ) (ms : List ℕ) (d : Draft) → Low d → Low (checked n ms d)
+unfolding checked
+low-checked n [] d h = h
+low-checked n (m ∷ ms) d h = low-pick _ 7 _ (lit< tt) (low-pick _ 6 _ (lit< tt) (low-pick _ 6 _ (lit< tt) (low-checked n ms d h)))
+
+low-request : (unit t n : ℕ) (ms : List ℕ) → Low (requestDraft unit t n ms)
+unfolding requestDraft
+low-request unit t n ms = low-pick _ 6 _ (lit< tt) (low-pick _ 6 _ (lit< tt) (low-pick _ 6 _ (lit< tt) (low-pick _ 6 _ (lit< tt) (low-checked n ms _ (low-sheet _)))))
+
+pub request-answerable : (unit t n : ℕ) (copies : List ℕ) → Answerable (requestDraftOfBytes unit t n copies)
+unfolding requestDraftOfBytes
+request-answerable unit t n copies =
+    pick-elim Answerable _ _ _ (λ _. six)
+    (λ _.
+    draft-answerable (requestDraft unit t n (numbers 8 copies)) (request-short unit t n (numbers 8 copies))
+    (low-request unit t n (numbers 8 copies)))
+
+-- ---- the plan reader's answer
+
+-- Q, R and m of what the sheet says, and no refusal
+pub plan-taken : (unit t : ℕ) (s disks set : List ℕ) (r : ℕ) (disks′ set′ : List ℕ) (p : Plan) (e : ℕ) → PlanRead unit t s disks set r disks′ set′ → planOf unit t s disks set ≡ got p e → Unpacked (length (p .disks)) (p .time) (length (p .short)) r
+unfolding heads readerAnswer
+plan-taken unit t s disks set r disks′ set′ p e w h =
+    let g : InRange p = plan-of-small unit t s disks set p e h in
+    subst (Unpacked (length (p .disks)) (p .time) (length (p .short))) (sym (w .answer ∙ ap (λ (o : Out Plan). readerAnswer (heads o)) h))
+    (plan-unpacks (length (p .disks)) (p .time) (length (p .short)) (omega (arith, g .blocks)) (omega (arith, g .time)) (omega (arith, g .size)))
+
+-- the short set is what the first bytes of the lent list say
+pub set-taken : (unit t : ℕ) (s disks set : List ℕ) (r : ℕ) (disks′ set′ : List ℕ) (p : Plan) (e : ℕ) → PlanRead unit t s disks set r disks′ set′ → planOf unit t s disks set ≡ got p e → numbers 2 (take (2 * length (p .short)) set′) ≡ p .short
+unfolding setLeft
+set-taken unit t s disks set r disks′ set′ p e w h =
+    let g : InRange p = plan-of-small unit t s disks set p e h in
+    let held : set′ ≡ over (spellAll (bytesOf 2) (p .short)) set = w .members ∙ ap (λ (o : Out Plan). setLeft o set) h in
+    ap (λ (x : List ℕ). numbers 2 (take (2 * length (p .short)) x)) held
+    ∙ ap (numbers 2) (over-front (spellAll (bytesOf 2) (p .short)) set (2 * length (p .short)) (spell-length 2 (p .short)))
+    ∙ numbers-spell 2 (p .short) (lit< tt) (g .members)
+
+-- ---- lists laid out as bytes
+
+whole-spell : (w : ℕ) (xs : List ℕ) → broken w (spellAll (bytesOf w) xs) ≡ false
+unfolding broken
+whole-spell w xs = le-ltb 0 (length (spellAll (bytesOf w) xs) % w) (omega (arith, ap (λ (k : ℕ). k % w) (spell-length w xs), mul-mod-right w (length xs)))
+
+pub settings-of-numbers : (unit t : ℕ) (cs ls ds : List ℕ) → All (λ (x : ℕ). x < 256 ^ 4) cs → All (λ (x : ℕ). x < 256 ^ 4) ls → All (λ (x : ℕ). x < 256 ^ 4) ds → settingsDraftOfBytes unit t (spellAll (bytesOf 4) cs) (spellAll (bytesOf 4) ls) (spellAll (bytesOf 4) ds) ≡ settingsDraft unit t cs ls ds
+unfolding settingsDraftOfBytes
+settings-of-numbers unit t cs ls ds p q r =
+    pick-false _ _ (rw (whole-spell 4 cs, whole-spell 4 ls, whole-spell 4 ds))
+    ∙ rw (numbers-spell 4 cs (lit< tt) p, numbers-spell 4 ls (lit< tt) q, numbers-spell 4 ds (lit< tt) r)
+
+pub request-of-numbers : (unit t n : ℕ) (ms : List ℕ) → All (λ (x : ℕ). x < 256 ^ 8) ms → requestDraftOfBytes unit t n (spellAll (bytesOf 8) ms) ≡ requestDraft unit t n ms
+unfolding requestDraftOfBytes
+request-of-numbers unit t n ms p = pick-false _ _ (whole-spell 8 ms) ∙ ap (requestDraft unit t n) (numbers-spell 8 ms (lit< tt) p)

@@ -1,0 +1,9 @@
+pub mod Numbers
+pub mod Over
+pub mod Filling
+pub mod Tests
+pub mod Packed
+pub mod Writing
+pub mod Reading
+pub mod Unique
+pub mod Caller

@@ -1,0 +1,65 @@
+-- What a caller takes out of an answer is what was packed into it.
+use mathlib.Core.Path.{_≡_, sym, ap, _∙_, subst}
+use Prim.Native.Nat.{ℕ, _+_, _*_, _^_, _<_}
+use native.Mathlib.Omega.{arith}
+use Rattle.field.specs.declared.Refusal.{Refusal}
+use Rattle.field.specs.declared.Written.{Written}
+use Rattle.field.specs.declared.Written.the-variants.{Length, Refused}
+use Rattle.field.specs.Refusal.{numberOf}
+use Rattle.field.specs.Send.{toldWritten}
+use Rattle.plan.specs.declared.Head.{Head}
+use Rattle.plan.specs.declared.Answer.{Answer}
+use Rattle.plan.specs.declared.Answer.the-variants.{Accepted}
+use Rattle.plan.specs.declared.Answer.the-variants.{Refused as Not}
+use Rattle.plan.specs.Told.{toldPlan}
+use Rattle.desk.specs.Packed.{packWritten, packPlan, writerAnswer, readerAnswer, refusalIn, lengthIn, blocksIn, timeIn, sizeIn, Short, Small}
+
+-- a writer's acceptance: no refusal, and the length
+pub written-unpacks : (n : ℕ) → n < 2 ^ 32 → (packWritten n < 2 ^ 64) × (refusalIn (packWritten n) ≡ 0) × (lengthIn (packWritten n) ≡ n)
+unfolding packWritten refusalIn lengthIn
+written-unpacks n h = (omega arith, omega arith, omega arith)
+
+-- the plan reader's acceptance: no refusal, and Q, R and m
+pub record Unpacked (q r m a : ℕ) : Type 0 where
+  pub fits : a < 2 ^ 64
+  pub refusal : refusalIn a ≡ 0
+  pub blocks : blocksIn a ≡ q
+  pub time : timeIn a ≡ r
+  pub size : sizeIn a ≡ m
+
+pub plan-unpacks : (q r m : ℕ) → q < 2 ^ 11 → r < 2 ^ 31 → m < 2 ^ 11 → Unpacked q r m (packPlan q r m)
+unfolding packPlan refusalIn blocksIn timeIn sizeIn
+plan-unpacks q r m a b c = record { fits = omega arith; refusal = omega arith; blocks = omega arith; time = omega arith; size = omega arith }
+
+-- a refusal: its number alone
+pub refusal-unpacks : (e : ℕ) → e < 2 ^ 8 → (refusalIn e ≡ e) × (lengthIn e ≡ 0) × (blocksIn e ≡ 0) × (timeIn e ≡ 0) × (sizeIn e ≡ 0)
+unfolding refusalIn lengthIn blocksIn timeIn sizeIn
+refusal-unpacks e h = (omega arith, omega arith, omega arith, omega arith, omega arith)
+
+-- ---- what the code packs
+
+module _ {w : Written} where
+  pub short-length : {n : ℕ} → Short w → w ≡ Length n → n < 2 ^ 32
+  unfolding Short
+  short-length {n} h e = subst Short e h
+
+  pub packed-length : {n : ℕ} → w ≡ Length n → n * 4294967296 ≡ writerAnswer (toldWritten w)
+  unfolding writerAnswer toldWritten packWritten
+  packed-length {n} e = ap (λ x. writerAnswer (toldWritten x)) (sym e)
+
+  pub packed-refusal : {e : Refusal} {r : ℕ} → w ≡ Refused e → r ≡ numberOf e → r ≡ writerAnswer (toldWritten w)
+  unfolding writerAnswer toldWritten
+  packed-refusal {e} {r} q a = a ∙ ap (λ x. writerAnswer (toldWritten x)) (sym q)
+
+module _ {a : Answer} where
+  pub small-head : {h : Head} → Small a → a ≡ Accepted h → (h .blocks < 2 ^ 11) × (h .time < 2 ^ 31) × (h .size < 2 ^ 11)
+  unfolding Small
+  small-head {h} s e = subst Small e s
+
+  pub packed-head : {h : Head} → a ≡ Accepted h → (n : ℕ) → h .blocks * 256 + h .time * 524288 + h .size * 1125899906842624 ≡ readerAnswer (toldPlan n a)
+  unfolding readerAnswer toldPlan packPlan
+  packed-head {h} e n = ap (λ x. readerAnswer (toldPlan n x)) (sym e)
+
+  pub packed-not : {e : Refusal} {r : ℕ} → a ≡ Not e → r ≡ numberOf e → (n : ℕ) → r ≡ readerAnswer (toldPlan n a)
+  unfolding readerAnswer toldPlan
+  packed-not {e} {r} q v n = v ∙ ap (λ x. readerAnswer (toldPlan n x)) (sym q)

@@ -1,0 +1,212 @@
+-- Laws of the plan reader.
+--     plan-small     Q, R and m of an accepted sheet
+--     read-accepted, read-refused     the two ways in which it ends
+use mathlib.Core.Path.{_≡_, refl, sym, ap, _∙_, subst}
+use mathlib.Core.Bool.{Bool, true, false, _&&_}
+use mathlib.Core.List.{List, [], _∷_, _++_}
+use Prim.Native.Nat.{ℕ, zero, suc, _+_, _*_, _-_, _/_, _^_, _≤_, _<_}
+use native.Mathlib.Omega.{arith}
+use borrow.Author.Tests.{le-leb, leb-true}
+use lib.ListN.{length, take, drop, length-append}
+use lib.Dec.{leb}
+use lib.Seq.{take-take, length-take-le}
+use Rattle.number.specs.Choice.{pick}
+use Rattle.number.proofs.Choice.{pick-true, pick-false, either}
+use Rattle.field.specs.declared.Refusal.{Refusal}
+use Rattle.field.specs.Refusal.{numberOf}
+use Rattle.field.specs.Put.{spellAll}
+use Rattle.field.specs.Sheet.{Out, got, refused, _>>=_, pure, times}
+use Rattle.field.specs.Field.{inside, rising, climb}
+use Rattle.field.specs.Lists.{All}
+use Rattle.field.proofs.Sheet.{Step, bind-got, after-got, pure-got}
+use Rattle.field.proofs.Spelt.{whole-got}
+use Rattle.field.proofs.Values.{inside-range, rising-within}
+use Rattle.plan.specs.declared.Head.{Head}
+use Rattle.plan.specs.declared.Answer.{Answer}
+use Rattle.plan.specs.declared.Answer.the-variants.{Accepted, Refused}
+use Rattle.plan.specs.Plan.{Plan, ifAny, timeOf, sizeOf, openingOf, listsOf, planFields, planSheet}
+use Rattle.plan.specs.Receive.{roomFor, settle, heads, over, disksLeft, shortLeft, Received}
+use Rattle.plan.specs.Told.{toldPlan}
+use Rattle.plan.proofs.Checking.{times-length, climb-length}
+use Rattle.desk.specs.Numbers.{bytesOf, numbers, Room}
+use Rattle.desk.specs.Packed.{readerAnswer, Small}
+use Rattle.desk.specs.Desk.{planOf, setLeft, PlanRead}
+use Rattle.desk.proofs.Numbers.{numbers-length}
+use Rattle.desk.proofs.Over.{over-front}
+
+-- ---- how large the values of an accepted sheet are
+
+pub record InRange (p : Plan) : Type 0 where
+  pub blocks : length (p .disks) ≤ 1024
+  pub time : p .time ≤ 1125000000
+  pub size : length (p .short) ≤ 1024
+  pub members : All (λ (b : ℕ). b < 256 ^ 2) (p .short)
+
+any-most : (q n : ℕ) → ifAny q n ≤ n
+unfolding ifAny
+any-most zero n = omega arith
+any-most (suc q) n = omega arith
+
+climb-below : (high : ℕ) (s : List ℕ) → high < 256 ^ 2 → (n floor at : ℕ) (vs : List ℕ) (e : ℕ) → climb n floor high s at ≡ got vs e → All (λ (b : ℕ). b < 256 ^ 2) vs
+unfolding climb All
+climb-below high s l zero floor at vs e h =
+    let q : ([] ≡ vs) × (at ≡ e) = pure-got [] vs s at e h in
+    subst (All (λ (b : ℕ). b < 256 ^ 2)) (q .0) tt
+climb-below high s l (suc n) floor at vs e h =
+    let w : Step (rising floor high s at) (λ v m. (climb n (v + 1) high >>= λ rest. pure (v ∷ rest)) s m) vs e = bind-got (rising floor high) s at vs e _ h in
+    let u : Step (climb n (w .found + 1) high s (w .mid)) (λ rest m. pure (w .found ∷ rest) s m) vs e = bind-got (climb n (w .found + 1) high) s (w .mid) vs e _ (w .last) in
+    let q : (w .found ∷ u .found ≡ vs) × (u .mid ≡ e) = pure-got (w .found ∷ u .found) vs s (u .mid) e (u .last) in
+    subst (All (λ (b : ℕ). b < 256 ^ 2)) (q .0)
+    (omega (arith, rising-within floor high s at _ _ (w .first)), climb-below high s l n (w .found + 1) (w .mid) (u .found) (u .mid) (u .first))
+
+lists-range : (q r : ℕ) (s : List ℕ) (at : ℕ) (p : Plan) (e : ℕ) → q ≤ 1024 → r ≤ 1125000000 → listsOf q r s at ≡ got p e → InRange p
+unfolding listsOf sizeOf
+lists-range q r s at p e few soon h =
+    let ds : Step (times q (inside 0 63) s at) (λ ds n. (sizeOf q >>= λ m. climb m 0 (q - 1) >>= λ bs. pure (record { time = r; disks = ds; short = bs })) s n) p e = bind-got (times q (inside 0 63)) s at p e _ h in
+    let m : Step (sizeOf q s (ds .mid)) (λ m n. (climb m 0 (q - 1) >>= λ bs. pure (record { time = r; disks = ds .found; short = bs })) s n) p e = bind-got (sizeOf q) s (ds .mid) p e _ (ds .last) in
+    let bs : Step (climb (m .found) 0 (q - 1) s (m .mid)) (λ bs n. pure (record { time = r; disks = ds .found; short = bs }) s n) p e = bind-got (climb (m .found) 0 (q - 1)) s (m .mid) p e _ (m .last) in
+    let is : (_≡_ {A = Plan} (record { time = r; disks = ds .found; short = bs .found }) p) × (bs .mid ≡ e) = pure-got _ p s (bs .mid) e (bs .last) in
+    record {
+      blocks = omega (arith, ap (λ (x : Plan). length (x .disks)) (is .0), times-length _ s q at _ _ (ds .first));
+      time = omega (arith, ap (λ (x : Plan). x .time) (is .0));
+      size = omega (arith, ap (λ (x : Plan). length (x .short)) (is .0), climb-length _ s _ 0 _ _ _ (bs .first), inside-range s _ _ q _ _ (m .first) .1);
+      members = subst (λ (x : Plan). All (λ (b : ℕ). b < 256 ^ 2) (x .short)) (is .0) (climb-below (q - 1) s (omega arith) _ 0 _ _ _ (bs .first));
+    }
+
+pub plan-small : (unit t : ℕ) (s : List ℕ) (p : Plan) (e : ℕ) → planSheet unit t s 0 ≡ got p e → InRange p
+unfolding planSheet planFields timeOf
+plan-small unit t s p e h =
+    let f : planFields unit t s 0 ≡ got p e = whole-got (planFields unit t) s p e h .0 in
+    let o : Step (openingOf unit t s 0) (λ _ n. (inside 0 1024 >>= λ q. timeOf q >>= λ r. listsOf q r) s n) p e = after-got (openingOf unit t) s 0 p e _ f in
+    let q : Step (inside 0 1024 s (o .mid)) (λ q n. (timeOf q >>= λ r. listsOf q r) s n) p e = bind-got (inside 0 1024) s (o .mid) p e _ (o .last) in
+    let r : Step (timeOf (q .found) s (q .mid)) (λ r n. listsOf (q .found) r s n) p e = bind-got (timeOf (q .found)) s (q .mid) p e _ (q .last) in
+    lists-range (q .found) (r .found) s (r .mid) p e (inside-range s _ 0 1024 _ _ (q .first) .1) (omega (arith, inside-range s _ _ _ _ _ (r .first) .1, any-most (q .found) 1125000000)) (r .last)
+
+-- ---- room for a short set
+
+leb-same : (m x y : ℕ) → (m ≤ x → m ≤ y) → (m ≤ y → m ≤ x) → leb m x ≡ leb m y
+leb-same m x y f g =
+    either (leb m y)
+    (λ t. le-leb m x (g (leb-true _ _ t)) ∙ sym t)
+    (λ n. either (leb m x) (λ t. t ∙ sym (le-leb m y (f (leb-true _ _ t)))) (λ k. k ∙ sym n))
+
+settle-same : (o : Out Plan) (disks a b : List ℕ) → ((p : Plan) (e : ℕ) → o ≡ got p e → leb (length (p .short)) (length a) ≡ leb (length (p .short)) (length b)) → settle o disks a ≡ settle o disks b
+unfolding settle roomFor
+settle-same (refused n) disks a b h = refl
+settle-same (got p e) disks a b h = ap (λ (x : Bool). pick (leb (length (p .disks)) (length disks) && x) (got p e) (refused 11)) (h p e refl)
+
+-- a list of 1,024 numbers has room for as many as any longer one
+pub room-same : (unit t : ℕ) (s disks short set : List ℕ) → Room (length set / 2) (length short) → settle (planSheet unit t s 0) disks short ≡ planOf unit t s disks set
+unfolding planOf
+room-same unit t s disks short set r =
+    settle-same (planSheet unit t s 0) disks short (numbers 2 set)
+    (λ p e h.
+    let k : length (p .short) ≤ 1024 = plan-small unit t s p e h .size in
+    let n : length (numbers 2 set) ≡ length set / 2 = numbers-length 2 set in
+    leb-same (length (p .short)) (length short) (length (numbers 2 set)) (λ x. omega (arith, r .below)) (λ x. r .enough (length (p .short)) k (omega arith)))
+
+-- what was settled stands on the sheet
+settled-got : (o : Out Plan) (disks short : List ℕ) (p : Plan) (e : ℕ) → settle o disks short ≡ got p e → o ≡ got p e
+unfolding settle
+settled-got (refused n) disks short p e h = absurd (let z : _≡_ {A = ℕ} 0 1 = cc in omega arith)
+settled-got (got x n) disks short p e h =
+    either (roomFor x disks short)
+    (λ t. sym (pick-true _ _ t) ∙ h)
+    (λ f. let v : refused 11 ≡ got p e = sym (pick-false _ _ f) ∙ h in absurd (let z : _≡_ {A = ℕ} 0 1 = cc in omega arith))
+
+pub plan-of-small : (unit t : ℕ) (s disks set : List ℕ) (p : Plan) (e : ℕ) → planOf unit t s disks set ≡ got p e → InRange p
+unfolding planOf
+plan-of-small unit t s disks set p e h = plan-small unit t s p e (settled-got (planSheet unit t s 0) disks (numbers 2 set) p e h)
+
+-- ---- the sheet is accepted
+
+pub record Plans (unit t : ℕ) (s disks short : List ℕ) (h : Head) : Type 0 where
+  pub plan : Plan
+  pub end : ℕ
+  pub is : settle (planSheet unit t s 0) disks short ≡ got plan end
+  pub range : InRange plan
+  pub room : length (plan .short) ≤ length short
+  pub blocks : h .blocks ≡ length (plan .disks)
+  pub time : h .time ≡ plan .time
+  pub size : h .size ≡ length (plan .short)
+
+and-right : (a b : Bool) → (a && b) ≡ true → b ≡ true
+and-right true b h = h
+and-right false b h = absurd (let o : _≡_ {A = ℕ} 0 1 = cc in omega arith)
+
+settled : (unit t : ℕ) (s disks short : List ℕ) (h : Head) (n : ℕ) (o : Out Plan) → planSheet unit t s 0 ≡ o → got h n ≡ heads (settle o disks short) → Plans unit t s disks short h
+unfolding settle roomFor heads
+settled unit t s disks short h n (refused m) q w = absurd (let o : _≡_ {A = ℕ} 0 1 = cc in omega arith)
+settled unit t s disks short h n (got p e) q w =
+    either (leb (length (p .disks)) (length disks) && leb (length (p .short)) (length short))
+    (λ y.
+    let x : pick (leb (length (p .disks)) (length disks) && leb (length (p .short)) (length short)) (got p e) (refused 11) ≡ got p e = pick-true _ _ y in
+    let v : got h n ≡ got (record { blocks = length (p .disks); time = p .time; size = length (p .short) }) e = w ∙ ap heads x in
+    let i : h ≡ record { blocks = length (p .disks); time = p .time; size = length (p .short) } = cc in
+    record {
+      plan = p;
+      end = e;
+      is = ap (λ (z : Out Plan). settle z disks short) q ∙ x;
+      range = plan-small unit t s p e q;
+      room = leb-true _ _ (and-right (leb (length (p .disks)) (length disks)) _ y);
+      blocks = ap (λ (z : Head). z .blocks) i;
+      time = ap (λ (z : Head). z .time) i;
+      size = ap (λ (z : Head). z .size) i;
+    })
+    (λ f.
+    let v : got h n ≡ refused 11 = w ∙ ap heads (pick-false _ _ f) in
+    absurd (let o : _≡_ {A = ℕ} 0 1 = cc in omega arith))
+
+-- what is packed has room in its bits
+pub plans-small : {unit t : ℕ} {s disks short : List ℕ} {h : Head} → Plans unit t s disks short h → Small (Accepted h)
+unfolding Small
+plans-small p = (omega (arith, p .blocks, p .range .blocks), omega (arith, p .time, p .range .time), omega (arith, p .size, p .range .size))
+
+-- a part of so many numbers
+pub room-part : (xs : List ℕ) {n k : ℕ} → Room n k → k ≤ length xs → Room n (length (take k xs))
+room-part xs {n} {k} r h = subst (Room n) (sym (length-take-le k xs h)) r
+
+-- the short set has room where it was read and where it goes
+pub pairs-fit : (zeros ys set : List ℕ) (k : ℕ) {unit t : ℕ} {s disks : List ℕ} {h : Head} → Plans unit t s disks (take k zeros) h → Room (length set / 2) k → k ≤ length zeros → length ys ≡ length (take k zeros) → (h .size ≤ length (ys ++ drop k zeros)) × (2 * h .size ≤ length set)
+pairs-fit zeros ys set k p r l e =
+    let n : length (take k zeros) ≡ k = length-take-le k zeros l in
+    (omega (arith, length-append ys (drop k zeros), p .size, p .room), omega (arith, p .size, p .room, r .below))
+
+-- a refusal leaves the short set as it was
+unset : (o : Out Plan) (set : List ℕ) {n : ℕ} → refused n ≡ heads o → set ≡ setLeft o set
+unfolding heads setLeft
+unset (got p e) set h = absurd (let o : _≡_ {A = ℕ} 0 1 = cc in omega arith)
+unset (refused m) set h = refl
+
+module _ {unit t : ℕ} {s disks short : List ℕ} {a : Answer} {disks′ short′ : List ℕ} (g : Received (planSheet unit t s 0) (length s) disks short a disks′ short′) where
+  pub accepted : {h : Head} → a ≡ Accepted h → Plans unit t s disks short h
+  unfolding toldPlan
+  accepted {h} e = settled unit t s disks short h (length s) (planSheet unit t s 0) refl (ap (toldPlan (length s)) (sym e) ∙ g .answer)
+
+  -- the two lists and the answer
+  pub read-accepted : (set blocks : List ℕ) {h : Head} {r : ℕ} {after : List ℕ} → a ≡ Accepted h → Room (length set / 2) (length short) → take (length short) blocks ≡ short′ → r ≡ readerAnswer (toldPlan (length s) (Accepted h)) → after ≡ over (spellAll (bytesOf 2) (take (h .size) blocks)) set → PlanRead unit t s disks set r disks′ after
+  unfolding toldPlan setLeft shortLeft
+  read-accepted set blocks {h} {r} {after} e room held answer left =
+      let p : Plans unit t s disks short h = accepted e in
+      let same : settle (planSheet unit t s 0) disks short ≡ planOf unit t s disks set = room-same unit t s disks short set room in
+      let members : short′ ≡ over (p .plan .short) short = g .members ∙ ap (λ (o : Out Plan). shortLeft o short) (p .is) in
+      let first : take (h .size) blocks ≡ p .plan .short =
+      sym (take-take (h .size) (length short) blocks (omega (arith, p .size, p .room)))
+      ∙ ap (take (h .size)) (held ∙ members)
+      ∙ over-front (p .plan .short) short (h .size) (sym (p .size)) in
+      record {
+        answer = answer ∙ ap readerAnswer (ap (toldPlan (length s)) (sym e) ∙ g .answer ∙ ap heads same);
+        blocks = g .blocks ∙ ap (λ (o : Out Plan). disksLeft o disks) same;
+        members = left ∙ ap (λ (x : List ℕ). over (spellAll (bytesOf 2) x) set) first ∙ ap (λ (o : Out Plan). setLeft o set) (sym (p .is) ∙ same);
+      }
+
+  pub read-refused : (set : List ℕ) {e : Refusal} {r : ℕ} → a ≡ Refused e → Room (length set / 2) (length short) → r ≡ numberOf e → PlanRead unit t s disks set r disks′ set
+  unfolding toldPlan readerAnswer
+  read-refused set {e} {r} q room answer =
+      let same : settle (planSheet unit t s 0) disks short ≡ planOf unit t s disks set = room-same unit t s disks short set room in
+      let v : refused (numberOf e) ≡ heads (planOf unit t s disks set) = ap (toldPlan (length s)) (sym q) ∙ g .answer ∙ ap heads same in
+      record {
+        answer = answer ∙ ap readerAnswer v;
+        blocks = g .blocks ∙ ap (λ (o : Out Plan). disksLeft o disks) same;
+        members = unset (planOf unit t s disks set) set v;
+      }

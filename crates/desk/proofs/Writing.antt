@@ -1,0 +1,128 @@
+-- Laws of the two writers.
+--     wrote-refused, wrote-sent     a refusal before the sheet's writer, and what that writer did
+--     settings-unusable, ..         lists that are broken or too long are 6
+--     settings-short, ..            the length of a sheet has room in its bits
+use mathlib.Core.Path.{_≡_, refl, sym, ap, _∙_}
+use mathlib.Core.Bool.{Bool, true, false, _||_}
+use mathlib.Core.Logic.{⊎-elim}
+use mathlib.Core.List.{List}
+use Prim.Native.Nat.{ℕ, _^_, _≤_, _<_}
+use native.Mathlib.Omega.{arith}
+use borrow.Author.Tests.{lt-ltb}
+use lib.ListN.{length}
+use lib.Dec.{leb}
+use Rattle.number.proofs.Choice.{pick-true, pick-false, pick-elim, either}
+use Rattle.number.proofs.Encode.{width-bounds}
+use Rattle.field.specs.declared.Written.{Written}
+use Rattle.field.specs.declared.Written.the-variants.{Length, Refused}
+use Rattle.field.specs.Put.{spellAll}
+use Rattle.field.specs.Send.{Draft, sheet, none, toldWritten, answerTo, leftBy, Sent}
+use Rattle.field.specs.Sheet.{got, refused}
+use Rattle.settings.specs.Row.{rowBytes}
+use Rattle.settings.specs.Draft.{rowsOf, sheetBytes, settingsDraft}
+use Rattle.settings.specs.Parts.{rowsWidth}
+use Rattle.settings.proofs.Rows.{length-rows, rows-small}
+use Rattle.settings.proofs.Writing.{Sheeted, draft-either, sheet-length}
+use Rattle.request.specs.Draft.{requestDraft, blockBytes}
+use Rattle.request.proofs.RoundTrip.{longest-written}
+use Rattle.desk.specs.Numbers.{numbers, broken, usable}
+use Rattle.desk.specs.Packed.{writerAnswer, Short}
+use Rattle.desk.specs.Desk.{settingsDraftOfBytes, requestDraftOfBytes, Wrote}
+use Rattle.desk.proofs.Tests.{is-usable, not-usable}
+
+-- ---- the ways in which a writer ends
+
+pub wrote-refused : {d : Draft} (out : List ℕ) → d ≡ none 6 → Wrote d out 6 out
+unfolding writerAnswer answerTo leftBy
+wrote-refused out e = rw e (record { answer = refl; held = refl })
+
+pub wrote-sent : {d e : Draft} {out : List ℕ} {w : Written} {r : ℕ} {after : List ℕ} → d ≡ e → Sent e out w after → r ≡ writerAnswer (toldWritten w) → Wrote d out r after
+wrote-sent {d} {e} {out} {w} {r} {after} q s a = record {
+  answer = a ∙ ap writerAnswer (s .answer) ∙ ap (λ (x : Draft). writerAnswer (answerTo x out)) (sym q);
+  held = s .held ∙ ap (λ (x : Draft). leftBy x out) (sym q);
+}
+
+-- the same lists
+pub settings-sent : (unit t : ℕ) {cs ls ds cs′ ls′ ds′ out : List ℕ} {w : Written} {after : List ℕ} → cs′ ≡ cs → ls′ ≡ ls → ds′ ≡ ds → Sent (settingsDraft unit t cs′ ls′ ds′) out w after → Sent (settingsDraft unit t cs ls ds) out w after
+settings-sent unit t p q r s = rw (sym p, sym q, sym r) s
+
+-- a sheet of fewer bytes than 32 bits count
+pub short-sent : (d : Draft) (out : List ℕ) (w : Written) (after : List ℕ) → Sent d out w after → ((bs : List ℕ) → d ≡ sheet bs → length bs < 2 ^ 32) → Short w
+unfolding Short toldWritten answerTo
+short-sent d out (Refused e) after s few = tt
+short-sent (none k) out (Length n) after s few =
+    let q : got tt n ≡ refused k = s .answer in absurd (let z : _≡_ {A = ℕ} 0 1 = cc in omega arith)
+short-sent (sheet bs) out (Length n) after s few =
+    either (leb (length bs) (length out))
+    (λ t. let q : got tt n ≡ got tt (length bs) = s .answer ∙ pick-true _ _ t in let m : n ≡ length bs = cc in omega (arith, m, few bs refl))
+    (λ f. let q : got tt n ≡ refused 11 = s .answer ∙ pick-false _ _ f in absurd (let z : _≡_ {A = ℕ} 0 1 = cc in omega arith))
+
+-- ---- lists of costs, loads and delays
+
+module _ (unit t : ℕ) (costs loads delays : List ℕ) where
+  settings-broken : (broken 4 costs || (broken 4 loads || broken 4 delays)) ≡ true → settingsDraftOfBytes unit t costs loads delays ≡ none 6
+  unfolding settingsDraftOfBytes
+  settings-broken h = pick-true _ _ h
+
+  settings-long : (Sheeted unit t (numbers 4 costs) (numbers 4 loads) (numbers 4 delays) → ⊥) → settingsDraftOfBytes unit t costs loads delays ≡ none 6
+  unfolding settingsDraftOfBytes
+  settings-long f =
+      pick-elim (λ (d : Draft). d ≡ none 6) _ _ _ (λ _. refl)
+      (λ _. draft-either unit t (numbers 4 costs) (numbers 4 loads) (numbers 4 delays) (λ n. n) (λ w. absurd (f w)))
+
+  pub costs-unusable : usable 4 64 costs ≡ false → settingsDraftOfBytes unit t costs loads delays ≡ none 6
+  costs-unusable h =
+      ⊎-elim (λ b. settings-broken (ap (λ (x : Bool). x || (broken 4 loads || broken 4 delays)) b))
+      (λ l. settings-long (λ w. omega (arith, w .few)))
+      (not-usable 4 64 costs h)
+
+  pub loads-unusable : usable 4 64 costs ≡ true → usable 4 64 loads ≡ false → settingsDraftOfBytes unit t costs loads delays ≡ none 6
+  loads-unusable c h =
+      ⊎-elim (λ b. settings-broken (ap (λ (x : Bool). x || (broken 4 loads || broken 4 delays)) (is-usable 4 64 costs c .0) ∙ ap (λ (x : Bool). x || broken 4 delays) b))
+      (λ l. settings-long (λ w. omega (arith, w .few, w .loads)))
+      (not-usable 4 64 loads h)
+
+  pub delays-unusable : usable 4 64 costs ≡ true → usable 4 64 loads ≡ true → usable 4 64 delays ≡ false → settingsDraftOfBytes unit t costs loads delays ≡ none 6
+  delays-unusable c l h =
+      ⊎-elim (λ b. settings-broken (ap (λ (x : Bool). x || (broken 4 loads || broken 4 delays)) (is-usable 4 64 costs c .0) ∙ ap (λ (x : Bool). x || broken 4 delays) (is-usable 4 64 loads l .0) ∙ b))
+      (λ k. settings-long (λ w. omega (arith, w .few, w .delays)))
+      (not-usable 4 64 delays h)
+
+  pub settings-usable : usable 4 64 costs ≡ true → usable 4 64 loads ≡ true → usable 4 64 delays ≡ true → settingsDraftOfBytes unit t costs loads delays ≡ settingsDraft unit t (numbers 4 costs) (numbers 4 loads) (numbers 4 delays)
+  unfolding settingsDraftOfBytes
+  settings-usable c l d =
+      pick-false _ _ (ap (λ (x : Bool). x || (broken 4 loads || broken 4 delays)) (is-usable 4 64 costs c .0) ∙ ap (λ (x : Bool). x || broken 4 delays) (is-usable 4 64 loads l .0) ∙ is-usable 4 64 delays d .0)
+
+pub settings-short : (unit t : ℕ) (cs ls ds bs : List ℕ) → settingsDraft unit t cs ls ds ≡ sheet bs → length bs < 2 ^ 32
+unfolding rowsWidth
+settings-short unit t cs ls ds bs h =
+    draft-either unit t cs ls ds
+    (λ n. let q : sheet bs ≡ none 6 = sym h ∙ n in absurd (let z : _≡_ {A = ℕ} 0 1 = cc in omega arith))
+    (λ w.
+    let q : sheet bs ≡ sheet (sheetBytes unit t (rowsOf cs ls ds)) = sym h ∙ w .is in
+    let e : bs ≡ sheetBytes unit t (rowsOf cs ls ds) = cc in
+    let rows : length (rowsOf cs ls ds) ≡ length cs = length-rows cs ls ds (w .loads) (w .delays) in
+    let small : length (spellAll rowBytes (rowsOf cs ls ds)) ≤ 640 = rows-small cs ls ds (length (spellAll rowBytes (rowsOf cs ls ds))) (w .loads) (w .delays) (w .few) (sym (pick-true _ _ (w .good))) in
+    omega (arith, ap length e, sheet-length unit t (rowsOf cs ls ds) (omega (arith, rows, w .few)), width-bounds unit, width-bounds t))
+
+-- ---- lists of copy numbers
+
+module _ (unit t n : ℕ) (copies : List ℕ) where
+  pub copies-unusable : usable 8 1024 copies ≡ false → requestDraftOfBytes unit t n copies ≡ none 6
+  unfolding requestDraftOfBytes requestDraft
+  copies-unusable h =
+      pick-elim (λ (d : Draft). d ≡ none 6) _ _ _ (λ _. refl)
+      (λ f.
+      pick-elim (λ (d : Draft). d ≡ none 6) _ _ _ (λ _. refl)
+      (λ _. pick-elim (λ (d : Draft). d ≡ none 6) _ _ _ (λ _. refl)
+      (λ _. pick-elim (λ (d : Draft). d ≡ none 6) _ _ _ (λ _. refl)
+      (λ _. pick-true _ _
+      (⊎-elim (λ b. let z : true ≡ false = sym b ∙ f in absurd (let o : _≡_ {A = ℕ} 0 1 = cc in omega arith))
+      (λ l. lt-ltb _ _ l) (not-usable 8 1024 copies h))))))
+
+  pub request-usable : usable 8 1024 copies ≡ true → requestDraftOfBytes unit t n copies ≡ requestDraft unit t n (numbers 8 copies)
+  unfolding requestDraftOfBytes
+  request-usable h = pick-false _ _ (is-usable 8 1024 copies h .0)
+
+pub request-short : (unit t n : ℕ) (ms bs : List ℕ) → requestDraft unit t n ms ≡ sheet bs → length bs < 2 ^ 32
+request-short unit t n ms bs h = omega (arith, longest-written unit t n ms bs h)

@@ -1,0 +1,79 @@
+-- `rp_read_plan`: the sheet is read into a list of our own, as long as the bytes have room for; what was read is then put into the bytes.
+use borrow.Author.Needs.{needs}
+use Rattle.desk.proofs.Reading.{accepted, plans-small, room-part, pairs-fit, read-accepted, read-refused}
+use lib.ListN.{drop, replicate}
+use mathlib.Core.List.{_++_}
+use Prim.Native.Nat.{ℕ}
+use lib.Seq.{length-take-le, length-front, take-at}
+use mathlib.Core.Path.{sym}
+use Rattle.desk.proofs.rp_read_plan.Statement.{statement}
+use Rattle.desk.proofs.rp_read_plan.Tie as tie
+
+room-requires : tie.Need-room-requires
+room-requires c κs = search needs
+
+array-borrow-prefix-blocks : tie.Need-array-borrow-prefix-blocks
+array-borrow-prefix-blocks c = search needs
+
+slice-aggregate-read : tie.Need-slice-aggregate-read
+slice-aggregate-read c = sym (length-take-le _ _ (c .before .before .room .ensures .within))
+
+read-requires : tie.Need-read-requires
+read-requires c κs = search needs
+
+enum-known-h : tie.Need-enum-known-h
+enum-known-h c = search needs
+
+slice-aggregate-put-pairs : tie.Need-slice-aggregate-put-pairs
+slice-aggregate-put-pairs c = sym (length-front {A = ℕ} (replicate 1024 0) (c .before .before .before .before .before .before .before .read .last .1 .1 .1 .1 .0) (c .before .before .before .before .before .before .before .before .before .before .room .result) (c .before .before .before .before .before .before .before .read .kept .1 .1 .1 .1 .0))
+
+put-pairs-requires : tie.Need-put-pairs-requires
+put-pairs-requires c κs = pairs-fit (replicate 1024 0) (c .before .before .before .before .before .before .before .before .read .last .1 .1 .1 .1 .0) (c .before .before .before .before .before .before .before .before .before .before .before .before .before .before .before .before .args .short .now) (c .before .before .before .before .before .before .before .before .before .before .before .room .result) (accepted (c .before .before .before .before .before .before .before .before .read .ensures) (c .before .before .before .h .given .1)) (c .before .before .before .before .before .before .before .before .before .before .before .room .ensures) (c .before .before .before .before .before .before .before .before .before .before .before .room .ensures .within) (c .before .before .before .before .before .before .before .before .read .kept .1 .1 .1 .1 .0)
+
+pack-plan-requires : tie.Need-pack-plan-requires
+pack-plan-requires c κs = plans-small (accepted (c .before .before .before .before .before .before .before .before .before .before .before .read .ensures) (c .before .before .before .before .before .before .h .given .1))
+
+enum-known-e : tie.Need-enum-known-e
+enum-known-e c = search needs
+
+number-of-requires : tie.Need-number-of-requires
+number-of-requires c κs = search needs
+
+same-length : tie.Need-same-length
+same-length c = search needs
+
+same-length-2 : tie.Need-same-length-2
+same-length-2 c = search needs
+
+returns : tie.Need-returns
+returns c = read-accepted (c .before .before .before .before .before .before .before .before .before .before .before .before .read .ensures) (c .before .before .before .before .before .before .before .before .before .before .before .before .before .before .before .before .before .before .before .before .args .short .now) (c .before .before .before .before .before .before .before .before .before .before .before .before .read .last .1 .1 .1 .1 .0 ++ drop (c .before .before .before .before .before .before .before .before .before .before .before .before .before .before .before .room .result) (replicate 1024 0)) (c .before .before .before .before .before .before .before .h .given .1) (room-part (replicate 1024 0) (c .before .before .before .before .before .before .before .before .before .before .before .before .before .before .before .room .ensures) (c .before .before .before .before .before .before .before .before .before .before .before .before .before .before .before .room .ensures .within)) (take-at _ _ _ (c .before .before .before .before .before .before .before .before .before .before .before .before .read .kept .1 .1 .1 .1 .0)) (c .pack-plan .ensures _) (c .before .before .before .put-pairs .ensures)
+
+same-length-3 : tie.Need-same-length-3
+same-length-3 c = search needs
+
+same-length-4 : tie.Need-same-length-4
+same-length-4 c = search needs
+
+returns-2 : tie.Need-returns-2
+returns-2 c = read-refused (c .before .before .before .before .before .before .before .read .ensures) (c .before .before .before .before .before .before .before .before .before .before .before .before .before .before .before .args .short .now) (c .before .before .e .given .1) (room-part (replicate 1024 0) (c .before .before .before .before .before .before .before .before .before .before .room .ensures) (c .before .before .before .before .before .before .before .before .before .before .room .ensures .within)) (c .number-of .ensures)
+
+pub rp-read-plan-spec : {M : Type 1} → statement M
+rp-read-plan-spec =
+    tie.close
+    (tie.spec
+    room-requires
+    array-borrow-prefix-blocks
+    slice-aggregate-read
+    read-requires
+    enum-known-h
+    slice-aggregate-put-pairs
+    put-pairs-requires
+    pack-plan-requires
+    enum-known-e
+    number-of-requires
+    same-length
+    same-length-2
+    returns
+    same-length-3
+    same-length-4
+    returns-2)

@@ -1,0 +1,46 @@
+-- The promises of the three exported functions.
+--     settingsDraftOfBytes, requestDraftOfBytes     the sheet of lists of bytes, or why there is none
+--     Wrote          a writer's answer, and the buffer afterwards
+--     planOf         what a plan sheet says, for two lists of bytes
+--     PlanRead       the plan reader's answer, and the two lists afterwards
+use Prim.Native.Nat.{ℕ}
+use mathlib.Core.Bool.{_||_}
+use mathlib.Core.Path.{_≡_}
+use mathlib.Core.List.{List}
+use Rattle.number.specs.Choice.{pick}
+use Rattle.field.specs.Put.{spellAll}
+use Rattle.field.specs.Send.{Draft, none, answerTo, leftBy}
+use Rattle.field.specs.Sheet.{Out, got, refused}
+use Rattle.settings.specs.Draft.{settingsDraft}
+use Rattle.request.specs.Draft.{requestDraft}
+use Rattle.plan.specs.Plan.{Plan, planSheet}
+use Rattle.plan.specs.Receive.{settle, heads, over, disksLeft}
+use Rattle.desk.specs.Numbers.{bytesOf, numbers, broken}
+use Rattle.desk.specs.Packed.{writerAnswer, readerAnswer}
+
+-- lists broken inside a number are 6 before the rest
+unfoldable pub settingsDraftOfBytes : ℕ → ℕ → List ℕ → List ℕ → List ℕ → Draft
+settingsDraftOfBytes unit t costs loads delays =
+    pick (broken 4 costs || (broken 4 loads || broken 4 delays)) (none 6)
+    (settingsDraft unit t (numbers 4 costs) (numbers 4 loads) (numbers 4 delays))
+
+unfoldable pub requestDraftOfBytes : ℕ → ℕ → ℕ → List ℕ → Draft
+requestDraftOfBytes unit t n copies = pick (broken 8 copies) (none 6) (requestDraft unit t n (numbers 8 copies))
+
+pub record Wrote (d : Draft) (out : List ℕ) (r : ℕ) (after : List ℕ) : Type 0 where
+  pub answer : r ≡ writerAnswer (answerTo d out)
+  pub held : after ≡ leftBy d out
+
+-- 11 where the disks have more than a byte each, or the short set more than two: an odd last byte is no room
+unfoldable pub planOf : ℕ → ℕ → List ℕ → List ℕ → List ℕ → Out Plan
+planOf unit t sheet disks set = settle (planSheet unit t sheet 0) disks (numbers 2 set)
+
+-- the short set's bytes first, the bytes beyond them as they were; on refusal all as it was
+unfoldable pub setLeft : Out Plan → List ℕ → List ℕ
+setLeft (got p e) set = over (spellAll (bytesOf 2) (p .short)) set
+setLeft (refused n) set = set
+
+pub record PlanRead (unit t : ℕ) (sheet disks set : List ℕ) (r : ℕ) (disks′ set′ : List ℕ) : Type 0 where
+  pub answer : r ≡ readerAnswer (heads (planOf unit t sheet disks set))
+  pub blocks : disks′ ≡ disksLeft (planOf unit t sheet disks set) disks
+  pub members : set′ ≡ setLeft (planOf unit t sheet disks set) set

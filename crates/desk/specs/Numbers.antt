@@ -1,0 +1,44 @@
+-- Numbers as bytes, lowest byte first.
+--     valueOf, bytesOf     the number of some bytes; the bytes of a number
+--     numberAt             the number of so many bytes at a place
+--     numbers              the numbers of a list of bytes, so many bytes each
+--     broken, usable       a list that ends inside a number; one that does not, and is not too long
+--     Room                 the lesser of a count and 1,024
+use Prim.Native.Nat.{ℕ, zero, suc, _+_, _*_, _/_, _%_, _≤_}
+use mathlib.Core.Bool.{Bool, not, _&&_}
+use mathlib.Core.List.{List, [], _∷_}
+use lib.ListN.{length, take, drop}
+use lib.Dec.{leb, ltb}
+
+unfoldable pub valueOf : List ℕ → ℕ
+valueOf [] = 0
+valueOf (b ∷ bs) = b + 256 * valueOf bs
+
+-- w bytes of v
+unfoldable pub bytesOf : ℕ → ℕ → List ℕ
+bytesOf zero v = []
+bytesOf (suc w) v = v % 256 ∷ bytesOf w (v / 256)
+
+unfoldable pub numberAt : ℕ → List ℕ → ℕ → ℕ
+numberAt w bytes at = valueOf (take w (drop at bytes))
+
+-- the first n numbers of w bytes each
+unfoldable pub firstNumbers : ℕ → ℕ → List ℕ → List ℕ
+firstNumbers w zero bytes = []
+firstNumbers w (suc n) bytes = valueOf (take w bytes) ∷ firstNumbers w n (drop w bytes)
+
+-- bytes behind the last whole number are not used
+unfoldable pub numbers : ℕ → List ℕ → List ℕ
+numbers w bytes = firstNumbers w (length bytes / w) bytes
+
+unfoldable pub broken : ℕ → List ℕ → Bool
+broken w bytes = ltb 0 (length bytes % w)
+
+-- whole numbers of w bytes, and at most so many
+unfoldable pub usable : ℕ → ℕ → List ℕ → Bool
+usable w most bytes = not (broken w bytes) && leb (length bytes / w) most
+
+pub record Room (n r : ℕ) : Type 0 where
+  pub within : r ≤ 1024
+  pub below : r ≤ n
+  pub enough : (m : ℕ) → m ≤ 1024 → m ≤ n → m ≤ r
