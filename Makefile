@@ -1,21 +1,39 @@
-# make plan   builds and runs the main job on the example of document 01
-# make test   every test: the host tests, then the proofs, the must-fail edits and the programs' runs
-.PHONY: plan test second host-tests
+# make plan      builds the bench program and runs the example of document 01
+# make test      every test: the host tests, then the proofs, the must-fail edits and the programs' runs
+# make tools     the desk's and the tenant's programs, in C
+# make compare   20,000 inputs to this and to the second program
+# make race      the benchmark; make race docs=docs also puts its tables into docs/SPEED.md
+.PHONY: plan test programs tools second host-tests compare race
 
-SECOND := target/second/release/second
+SECOND := $(CURDIR)/target/second/release/second
+LIBRARY := $(CURDIR)/target/staticlib/libdesk.a
+COUNT ?= 20000
 
 plan:
-	@echo "The bench program is still to come; the examples of numbers run meanwhile:"
-	rt check limits >/dev/null
-	./target/bin/limits
+	@mkdir -p target
+	rt check bench >target/plan.log 2>&1 || { cat target/plan.log; exit 1; }
+	./target/bin/bench <crates/bench/stdin
+
+# The proved programs and the library for C.
+programs:
+	rt check bench
+	rt staticlib desk
+
+tools: programs
+	$(MAKE) -C hosts LIB=$(LIBRARY)
 
 # The independent second program.
 second:
 	cd second && CARGO_TARGET_DIR=../target/second cargo build --offline --release --quiet
 
-host-tests: second
+host-tests: programs second
 	cd second && CARGO_TARGET_DIR=../target/second cargo test --offline --release --quiet
 	$(SECOND) vectors second/vectors/sheets.txt
+	LIB=$(LIBRARY) SHELF=none SECOND=$(SECOND) sh tests/hosts/run.sh
+	$(SECOND) compare bench 4000 1 ./target/bin/bench
+
+compare: programs second
+	$(SECOND) compare bench $(COUNT) 1 ./target/bin/bench
 
 # The proofs come last, so that the last line is theirs.
 test: host-tests

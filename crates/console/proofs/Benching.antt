@@ -1,0 +1,315 @@
+-- Laws of the bench: a call's outcome, what is shown of a plan sheet, and each stage of the input.
+use mathlib.Core.Path.{_≡_, refl, sym, ap, _∙_, subst}
+use mathlib.Core.Bool.{Bool, true, false}
+use mathlib.Core.List.{List, [], _∷_, _++_}
+use Prim.Native.Nat.{ℕ, _+_, _-_, _^_, _≤_, _<_}
+use native.Mathlib.Omega.{arith}
+use borrow.Author.Tests.{le-leb, leb-true, ltb-true}
+use lib.Dec.{leb, ltb}
+use lib.ListN.{length, take, drop, length-append}
+use lib.Seq.{take-at}
+use Rattle.number.specs.Choice.{pick}
+use Rattle.number.proofs.Choice.{pick-true, pick-false, pick-elim, either}
+use Rattle.field.specs.declared.Refusal.{Refusal}
+use Rattle.field.specs.declared.Refusal.the-variants.{Extra}
+use Rattle.field.specs.declared.Written.{Written}
+use Rattle.field.specs.declared.Written.the-variants.{Length}
+use Rattle.field.specs.declared.Written.the-variants.{Refused as NotWritten}
+use Rattle.field.specs.Field.{number, end}
+use Rattle.field.specs.Put.{paste}
+use Rattle.field.specs.Refusal.{numberOf}
+use Rattle.field.specs.Send.{Draft, toldWritten, answerTo, leftBy, Sent}
+use Rattle.field.specs.Send.{sheet as drafted}
+use Rattle.field.specs.Sheet.{Out, got, refused, Parser, _>>=_, _>>_, pure}
+use Rattle.field.proofs.Readers.{end-here, end-extra}
+use Rattle.field.proofs.Sheet.{next, then, stops, halts}
+use Rattle.settings.specs.declared.Table.{Table}
+use Rattle.settings.specs.Sheet.{settingsSheet}
+use Rattle.plan.specs.declared.Head.{Head}
+use Rattle.plan.specs.declared.Answer.{Answer}
+use Rattle.plan.specs.declared.Answer.the-variants.{Accepted}
+use Rattle.plan.specs.declared.Answer.the-variants.{Refused as NoPlan}
+use Rattle.plan.specs.Draft.{planBytes, planDraft, counted}
+use Rattle.plan.specs.Plan.{Plan, planSheet}
+use Rattle.plan.specs.Range.{InRange}
+use Rattle.plan.specs.Receive.{roomFor, settle as settledOf, heads, over, Received}
+use Rattle.plan.specs.Told.{toldPlan}
+use Rattle.plan.proofs.Longest.{longest-fits}
+use Rattle.plan.proofs.Receiving.{both, Took, took}
+use Rattle.plan.proofs.RoundTrip.{sheet-read}
+use Rattle.request.specs.Request.{requestSheet}
+use Rattle.unit.specs.declared.Answer.{Answer as Verdicts}
+use Rattle.unit.specs.declared.Answer.the-variants.{Accepted as Taken}
+use Rattle.unit.specs.declared.Answer.the-variants.{Refused as Denied}
+use Rattle.unit.specs.declared.Done.{Done}
+use Rattle.unit.specs.declared.Planned.{Planned}
+use Rattle.unit.specs.declared.Unit.{Unit}
+use Rattle.unit.specs.Life.{Verdict, accepted, Outcome, takes, refuses, rent, settled, set}
+use Rattle.unit.specs.Life.{refused as denied}
+use Rattle.unit.specs.Request.{PlanFor, Sheeted, Replied, Answered}
+use Rattle.unit.specs.Sound.{Sound}
+use Rattle.unit.specs.Told.{told, toldAnswer}
+use Rattle.unit.specs.Unit.{newUnit, tenancyOf, tenanted, withTable}
+use Rattle.unit.proofs.Plans.{plan-for-unique}
+use Rattle.unit.proofs.Sound.{sound-new, sound-rent, sound-set}
+use Rattle.console.specs.declared.Word.the-variants.{Refused}
+use Rattle.console.specs.Bench.{Ready, judge, accept, close, settle, hire, benchInput, Replies, Asks, Line, Tells, Let}
+use Rattle.console.specs.Frame.{sheet, part, Within}
+use Rattle.console.specs.Line.{spoken, planLine}
+use Rattle.console.specs.Printed.{Printed}
+use Rattle.console.proofs.Adding.{printed-unique}
+
+-- ---- a call's outcome
+
+module _ (s : List ℕ) (at : ℕ) {o : Outcome} (d : Done) (h : told d ≡ o) where
+  pub outcome-taken : d .answer ≡ Taken → accept o s at ≡ got (d .unit) at
+  unfolding accept judge told toldAnswer
+  outcome-taken q =
+      ap (λ (x : Outcome). judge (x .verdict) (x .unit) at) (sym h) ∙ ap (λ (v : Verdicts). judge (toldAnswer v) (d .unit) at) q
+
+  pub outcome-denied : (e : Refusal) → d .answer ≡ Denied e → accept o s at ≡ refused (numberOf e)
+  unfolding accept judge told toldAnswer
+  outcome-denied e q =
+      ap (λ (x : Outcome). judge (x .verdict) (x .unit) at) (sym h) ∙ ap (λ (v : Verdicts). judge (toldAnswer v) (d .unit) at) q
+
+-- the unit of an outcome
+pub outcome-unit : {o : Outcome} (d : Done) → told d ≡ o → o .unit ≡ d .unit
+unfolding told
+outcome-unit d h = ap (λ (x : Outcome). x .unit) (sym h)
+
+outcome-verdict : {o : Outcome} (d : Done) → told d ≡ o → d .answer ≡ Taken → o .verdict ≡ accepted
+unfolding told toldAnswer
+outcome-verdict d h q = ap (λ (x : Outcome). x .verdict) (sym h) ∙ ap toldAnswer q
+
+-- ---- a rented unit
+
+-- an accepted rent leaves a tenancy
+Leaves : Outcome → Type 0
+Leaves o = o .verdict ≡ accepted → 0 < tenancyOf (o .unit)
+
+rent-leaves : (u : Unit) (t : ℕ) → Leaves (rent u t)
+unfolding Leaves rent takes refuses tenanted tenancyOf pick
+rent-leaves u t =
+    pick-elim Leaves (u .rented) _ _
+    (λ _ q. absurd (let z : _≡_ {A = ℕ} 0 1 = cc in omega arith))
+    (λ _. pick-elim Leaves (ltb (u .last) t) _ _
+    (λ l q. omega (arith, ltb-true (u .last) t l))
+    (λ _ q. absurd (let z : _≡_ {A = ℕ} 0 1 = cc in omega arith)))
+
+-- settings leave the tenancy as it was
+settled-tenancy : (u : Unit) (o : Out Table) → tenancyOf (settled u o .unit) ≡ tenancyOf u
+unfolding settled takes refuses withTable tenancyOf
+settled-tenancy u (got t e) = refl
+settled-tenancy u (refused n) = refl
+
+set-tenancy : (u : Unit) (s : List ℕ) → tenancyOf (set u s .unit) ≡ tenancyOf u
+unfolding set
+set-tenancy u s = settled-tenancy u (settingsSheet (u .number) (tenancyOf u) s 0)
+
+pub let-rent : (n t : ℕ) (d : Done) → told d ≡ rent (newUnit n) t → d .answer ≡ Taken → Let (d .unit)
+unfolding Leaves
+let-rent n t d h q =
+    let e : rent (newUnit n) t .unit ≡ d .unit = outcome-unit d h in
+    record {
+      sound = subst Sound e (sound-rent (newUnit n) (sound-new n) t);
+      tenancy = subst (λ (u : Unit). 0 < tenancyOf u) e (rent-leaves (newUnit n) t (outcome-verdict d h q));
+    }
+
+pub let-set : {u : Unit} (s : List ℕ) (d : Done) → Let u → told d ≡ set u s → Let (d .unit)
+let-set {u} s d w h =
+    let e : set u s .unit ≡ d .unit = outcome-unit d h in
+    record {
+      sound = subst Sound e (sound-set u (w .sound) s);
+      tenancy = subst (λ (v : Unit). 0 < tenancyOf v) e (omega (arith, set-tenancy u s, w .tenancy));
+    }
+
+-- ---- each stage of the input
+
+-- a refusal's line
+pub tells-refused : {o : Out Ready} {out after : List ℕ} {n : ℕ} (e : Refusal) → o ≡ refused (numberOf e) → Printed (spoken (Refused (numberOf e))) out n after → Tells o out n after
+unfolding Line
+tells-refused e h p = record { text = spoken (Refused (numberOf e)); says = rw h refl; printed = p }
+
+-- another reader that gives the same
+pub tells-same : {o q : Out Ready} {out after : List ℕ} {n : ℕ} → q ≡ o → Tells o out n after → Tells q out n after
+tells-same {o} {q} {out} {after} {n} e w = subst (λ (x : Out Ready). Tells x out n after) (sym e) w
+
+module _ (u : Unit) (s : List ℕ) (at : ℕ) where
+  module _ (from to : ℕ) (h : sheet s at ≡ got (part s from to) to) where
+    -- the request
+    pub close-asks : {out after : List ℕ} {n : ℕ} → to ≡ length s → (text : List ℕ) × Asks u (part s from to) text × Printed text out n after → Tells (close u s at) out n after
+    unfolding close pure Line
+    close-asks q w =
+        let e : close u s at ≡ got (record { unit = u; request = part s from to }) to = next sheet _ s at h ∙ then end _ s to (end-here s to q) in
+        tells-same e (record { text = w .0; says = w .1; printed = w .2 })
+
+    -- input after the second sheet
+    pub close-extra : (to ≡ length s → ⊥) → close u s at ≡ refused 9
+    unfolding close
+    close-extra q = next sheet _ s at h ∙ halts end _ s to (end-extra s to q)
+
+    -- the settings
+    module _ (d : Done) (t : told d ≡ set u (take (to - from) (drop from s))) where
+      pub settle-taken : d .answer ≡ Taken → settle u s at ≡ close (d .unit) s to
+      unfolding settle part
+      settle-taken q = next sheet _ s at h ∙ next (accept (set u (part s from to))) _ s to (outcome-taken s to d t q)
+
+      pub settle-denied : (e : Refusal) → d .answer ≡ Denied e → settle u s at ≡ refused (numberOf e)
+      unfolding settle part
+      settle-denied e q = next sheet _ s at h ∙ stops (accept (set u (part s from to))) _ s to (outcome-denied s to d t e q)
+
+  pub close-stops : (n : ℕ) → sheet s at ≡ refused n → close u s at ≡ refused n
+  unfolding close
+  close-stops n h = stops sheet _ s at h
+
+  pub settle-stops : (n : ℕ) → sheet s at ≡ refused n → settle u s at ≡ refused n
+  unfolding settle
+  settle-stops n h = stops sheet _ s at h
+
+module _ (n t : ℕ) (s : List ℕ) (at : ℕ) (d : Done) (h : told d ≡ rent (newUnit n) t) where
+  pub hire-taken : d .answer ≡ Taken → hire n t s at ≡ settle (d .unit) s at
+  unfolding hire
+  hire-taken q = next (accept (rent (newUnit n) t)) _ s at (outcome-taken s at d h q)
+
+  pub hire-denied : (e : Refusal) → d .answer ≡ Denied e → hire n t s at ≡ refused (numberOf e)
+  unfolding hire
+  hire-denied e q = stops (accept (rent (newUnit n) t)) _ s at (outcome-denied s at d h e q)
+
+pub input-hires : (s : List ℕ) (n t e f : ℕ) → number s 0 ≡ got n e → number s e ≡ got t f → benchInput s 0 ≡ hire n t s f
+unfolding benchInput
+input-hires s n t e f h k = next number _ s 0 h ∙ next number _ s e k
+
+pub input-no-tenancy : (s : List ℕ) (n e m : ℕ) → number s 0 ≡ got n e → number s e ≡ refused m → benchInput s 0 ≡ refused m
+unfolding benchInput
+input-no-tenancy s n e m h k = next number _ s 0 h ∙ stops number _ s e k
+
+pub input-no-unit : (s : List ℕ) (m : ℕ) → number s 0 ≡ refused m → benchInput s 0 ≡ refused m
+unfolding benchInput
+input-no-unit s m h = stops number _ s 0 h
+
+-- ---- the plan sheet, read back
+
+few-disks : (xs list : List ℕ) → length xs ≤ length (over xs list)
+unfolding over
+few-disks xs list = omega (arith, length-append xs (drop (length xs) list))
+
+over-first : (xs list : List ℕ) (n : ℕ) → n ≡ length xs → take n (over xs list) ≡ xs
+unfolding over
+over-first xs list n h = take-at xs (drop (length xs) list) n (sym h)
+
+same-plan : (r r′ : ℕ) (ds ds′ bs bs′ : List ℕ) → r ≡ r′ → ds ≡ ds′ → bs ≡ bs′ → _≡_ {A = Plan} (record { time = r; disks = ds; short = bs }) (record { time = r′; disks = ds′; short = bs′ })
+same-plan r r′ ds ds′ bs bs′ x y z = cc
+
+-- what is known of an answer, where the answer is known
+pub received-as : {o : Out Plan} {n : ℕ} {disks short disks′ short′ : List ℕ} {a b : Answer} → Received o n disks short a disks′ short′ → a ≡ b → Received o n disks short b disks′ short′
+received-as {o} {n} {disks} {short} {disks′} {short′} w q = subst (λ (x : Answer). Received o n disks short x disks′ short′) q w
+
+module _ (unit t : ℕ) (s disks short : List ℕ) where
+  module _ (h : Head) (disks′ short′ : List ℕ) (w : Received (planSheet unit t s 0) (length s) disks short (Accepted h) disks′ short′) where
+    back : Took (planSheet unit t s 0) (length s) disks short h disks′ short′
+    back = took (length s) disks short h disks′ short′ (planSheet unit t s 0) w
+
+    -- both lists have so many entries
+    pub back-disks : h .blocks ≤ length disks′
+    back-disks = omega (arith, back .blocks, ap length (back .disks-left), few-disks (back .plan .disks) disks)
+
+    pub back-short : h .size ≤ length short′
+    back-short = omega (arith, back .size, ap length (back .short-left), few-disks (back .plan .short) short)
+
+    -- what was read is the plan
+    pub back-plan : unit < 2 ^ 32 → t < 2 ^ 32 → (p : Plan) → InRange p → 0 < t → s ≡ planBytes unit t p → record { time = h .time; disks = take (h .blocks) disks′; short = take (h .size) short′ } ≡ p
+    back-plan a b p r l q =
+        let x : planSheet unit t s 0 ≡ got p (length (planBytes unit t p)) = ap (λ (z : List ℕ). planSheet unit t z 0) q ∙ sheet-read unit t p a l b r in
+        let y : got (back .plan) (length s) ≡ got p (length (planBytes unit t p)) = sym (back .says) ∙ x in
+        let e : back .plan ≡ p = cc in
+        same-plan (h .time) (back .plan .time) (take (h .blocks) disks′) (back .plan .disks) (take (h .size) short′) (back .plan .short) (back .time)
+        (ap (take (h .blocks)) (back .disks-left) ∙ over-first (back .plan .disks) disks (h .blocks) (back .blocks))
+        (ap (take (h .size)) (back .short-left) ∙ over-first (back .plan .short) short (h .size) (back .size))
+        ∙ e
+
+  -- a plan sheet is never refused
+  pub back-never : (e : Refusal) (disks′ short′ : List ℕ) → Received (planSheet unit t s 0) (length s) disks short (NoPlan e) disks′ short′ → unit < 2 ^ 32 → t < 2 ^ 32 → length disks ≡ 1024 → length short ≡ 1024 → (p : Plan) → InRange p → 0 < t → s ≡ planBytes unit t p → ⊥
+  unfolding toldPlan settledOf heads roomFor
+  back-never e disks′ short′ w a b m n p r l q =
+      let x : planSheet unit t s 0 ≡ got p (length (planBytes unit t p)) = ap (λ (z : List ℕ). planSheet unit t z 0) q ∙ sheet-read unit t p a l b r in
+      let room : roomFor p disks short ≡ true = both (le-leb (length (p .disks)) (length disks) (omega (arith, r .few))) (le-leb (length (p .short)) (length short) (omega (arith, r .few, r .size-to))) in
+      let y : refused (numberOf e) ≡ heads (got p (length (planBytes unit t p))) = w .answer ∙ ap (λ (o : Out Plan). heads (settledOf o disks short)) x ∙ ap heads (pick-true _ _ room) in
+      let z : _≡_ {A = ℕ} 0 1 = cc in
+      omega arith
+
+-- ---- the request's answer
+
+sent-sheet : (bs out : List ℕ) (n : ℕ) (after : List ℕ) → Sent (drafted bs) out (Length n) after → (n ≤ length out) × (take n after ≡ bs)
+unfolding toldWritten answerTo leftBy paste
+sent-sheet bs out n after w =
+    either (leb (length bs) (length out))
+    (λ t.
+    let a : got tt n ≡ got tt (length bs) = w .answer ∙ pick-true _ _ t in
+    let k : n ≡ length bs = cc in
+    let x : after ≡ bs ++ drop (0 + length bs) out = w .held ∙ pick-true _ _ t in
+    (omega (arith, leb-true (length bs) (length out) t), ap (take n) x ∙ take-at bs (drop (0 + length bs) out) n (sym k)))
+    (λ f.
+    let a : got tt n ≡ refused 11 = w .answer ∙ pick-false _ _ f in
+    absurd (let z : _≡_ {A = ℕ} 0 1 = cc in omega arith))
+
+pub sent-plan : (unit t : ℕ) (p : Plan) → InRange p → (out : List ℕ) (n : ℕ) (after : List ℕ) → Sent (planDraft unit t p) out (Length n) after → (n ≤ length out) × (take n after ≡ planBytes unit t p)
+unfolding planDraft counted
+sent-plan unit t p r out n after w =
+    let e : planDraft unit t p ≡ drafted (planBytes unit t p) = pick-true _ _ (both (le-leb (length (p .disks)) 1024 (r .few)) (le-leb (length (p .short)) 1024 (omega (arith, r .few, r .size-to)))) in
+    sent-sheet (planBytes unit t p) out n after (subst (λ (d : Draft). Sent d out (Length n) after) e w)
+
+module _ (u : Unit) (out : List ℕ) where
+  -- an accepted request's sheet lies within the buffer
+  reply-within : (o : Out (List ℕ)) (n : ℕ) (after : List ℕ) → Replied u o out (Length n) after → n ≤ length out
+  unfolding Replied Sheeted toldWritten
+  reply-within (refused m) n after w = absurd (let a : got tt n ≡ refused m = w .0 in let z : _≡_ {A = ℕ} 0 1 = cc in omega arith)
+  reply-within (got copies e) n after w = sent-plan (u .number) (tenancyOf u) (w .0) (w .1 .range) out n after (w .2) .0
+
+  module _ {buf buf′ : List ℕ} {m : ℕ} where
+    reply-shown : (o : Out (List ℕ)) (n : ℕ) (after : List ℕ) → Replied u o out (Length n) after → ((p : Plan) → InRange p → take n after ≡ planBytes (u .number) (tenancyOf u) p → Printed (planLine (u .number) (tenancyOf u) p) buf m buf′) → (text : List ℕ) × Replies u o text × Printed text buf m buf′
+    unfolding Replied Sheeted Replies toldWritten
+    reply-shown (refused k) n after w f = absurd (let a : got tt n ≡ refused k = w .0 in let z : _≡_ {A = ℕ} 0 1 = cc in omega arith)
+    reply-shown (got copies e) n after w f =
+        let x : (n ≤ length out) × (take n after ≡ planBytes (u .number) (tenancyOf u) (w .0)) = sent-plan (u .number) (tenancyOf u) (w .0) (w .1 .range) out n after (w .2) in
+        (planLine (u .number) (tenancyOf u) (w .0), (w .0, w .1, refl), f (w .0) (w .1 .range) (x .1))
+
+    reply-refused : (o : Out (List ℕ)) (e : Refusal) (after : List ℕ) → 2964 ≤ length out → Replied u o out (NotWritten e) after → Printed (spoken (Refused (numberOf e))) buf m buf′ → (text : List ℕ) × Replies u o text × Printed text buf m buf′
+    unfolding Replied Sheeted Replies toldWritten
+    reply-refused (refused k) e after room w p =
+        let q : refused (numberOf e) ≡ refused k = w .0 in
+        let j : numberOf e ≡ k = cc in
+        (spoken (Refused (numberOf e)), ap (λ (i : ℕ). spoken (Refused i)) j, p)
+    reply-refused (got copies x) e after room w p =
+        let q : refused (numberOf e) ≡ got tt (length (planBytes (u .number) (tenancyOf u) (w .0))) = w .2 .answer ∙ longest-fits (u .number) (tenancyOf u) (w .0) out (w .1 .range) room in
+        absurd (let z : _≡_ {A = ℕ} 0 1 = cc in omega arith)
+
+  module _ (s : List ℕ) (r : Planned) (after : List ℕ) (a : Answered u s out r after) where
+    pub answered-within : (n : ℕ) → r .answer ≡ Length n → n ≤ length out
+    answered-within n q = reply-within _ n after (subst (λ (x : Written). Replied u (requestSheet (u .number) (tenancyOf u) (u .table .disks) s 0) out x after) q (a .reply))
+
+    module _ {buf buf′ : List ℕ} {m : ℕ} where
+      pub asks-shown : (n t : ℕ) → r .answer ≡ Length n → 0 < tenancyOf u → t ≡ tenancyOf u → ((p : Plan) → InRange p → 0 < t → take n after ≡ planBytes (u .number) t p → Printed (planLine (u .number) t p) buf m buf′) → (text : List ℕ) × Asks u s text × Printed text buf m buf′
+      unfolding Asks
+      asks-shown n t q l e f =
+          let g : (p : Plan) → InRange p → 0 < tenancyOf u → take n after ≡ planBytes (u .number) (tenancyOf u) p → Printed (planLine (u .number) (tenancyOf u) p) buf m buf′ = subst (λ (k : ℕ). (p : Plan) → InRange p → 0 < k → take n after ≡ planBytes (u .number) k p → Printed (planLine (u .number) k p) buf m buf′) e f in
+          reply-shown _ n after (subst (λ (x : Written). Replied u (requestSheet (u .number) (tenancyOf u) (u .table .disks) s 0) out x after) q (a .reply)) (λ p i j. g p i l j)
+
+      pub asks-refused : (e : Refusal) → r .answer ≡ NotWritten e → 2964 ≤ length out → Printed (spoken (Refused (numberOf e))) buf m buf′ → (text : List ℕ) × Asks u s text × Printed text buf m buf′
+      unfolding Asks
+      asks-refused e q room p = reply-refused _ e after room (subst (λ (x : Written). Replied u (requestSheet (u .number) (tenancyOf u) (u .table .disks) s 0) out x after) q (a .reply)) p
+
+-- ---- there is no second answer
+
+replies-unique : (u : Unit) (o : Out (List ℕ)) (x y : List ℕ) → Replies u o x → Replies u o y → x ≡ y
+unfolding Replies
+replies-unique u (refused n) x y v w = v ∙ sym w
+replies-unique u (got copies e) x y v w = v .2 ∙ ap (planLine (u .number) (tenancyOf u)) (plan-for-unique (u .table) copies (v .0) (w .0) (v .1) (w .1)) ∙ sym (w .2)
+
+line-unique : (o : Out Ready) (x y : List ℕ) → Line o x → Line o y → x ≡ y
+unfolding Line Asks
+line-unique (refused n) x y v w = v ∙ sym w
+line-unique (got r e) x y v w = replies-unique (r .unit) _ x y v w
+
+pub bench-unique : (o : Out Ready) (out : List ℕ) (n m : ℕ) (x y : List ℕ) → Tells o out n x → Tells o out m y → (n ≡ m) × (x ≡ y)
+bench-unique o out n m x y v w =
+    printed-unique (w .text) out n m x y (subst (λ (z : List ℕ). Printed z out n x) (line-unique o (v .text) (w .text) (v .says) (w .says)) (v .printed)) (w .printed)

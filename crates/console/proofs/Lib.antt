@@ -1,0 +1,5 @@
+pub mod Adding
+pub mod Digits
+pub mod Lines
+pub mod Framing
+pub mod Benching

@@ -1,0 +1,87 @@
+-- The bench's input and its line.
+--     accept                 the unit that a call hands back, or its refusal; nothing is read
+--     benchInput             all of the input: unit and tenancy, and then
+--     hire, settle, close    the rent; the settings sheet; the request sheet and the end of the input
+--     Replies, Line          the line of a request; the line of an input
+--     Tells                  the promise: that line stands in the buffer
+use Prim.Native.Nat.{ℕ, _<_}
+use mathlib.Core.Path.{_≡_}
+use mathlib.Core.List.{List}
+use Rattle.field.specs.Field.{number, end}
+use Rattle.field.specs.Sheet.{Out, got, refused, Parser, _>>=_, _>>_, pure}
+use Rattle.plan.specs.Plan.{Plan}
+use Rattle.request.specs.Request.{requestSheet}
+use Rattle.unit.specs.declared.Unit.{Unit}
+use Rattle.unit.specs.Life.{Verdict, accepted, Outcome, rent, set}
+use Rattle.unit.specs.Life.{refused as denied}
+use Rattle.unit.specs.Request.{PlanFor}
+use Rattle.unit.specs.Sound.{Sound}
+use Rattle.unit.specs.Unit.{newUnit, tenancyOf}
+use Rattle.console.specs.declared.Word.the-variants.{Refused}
+use Rattle.console.specs.Frame.{sheet}
+use Rattle.console.specs.Line.{spoken, planLine}
+use Rattle.console.specs.Printed.{Printed}
+
+-- a unit with its settings, and the request's sheet
+pub record Ready : Type 0 where
+  pub unit : Unit
+  pub request : List ℕ
+
+unfoldable pub judge : Verdict → Unit → ℕ → Out Unit
+judge accepted u at = got u at
+judge (denied n) u at = refused n
+
+unfoldable pub accept : Outcome → Parser Unit
+accept o s at = judge (o .verdict) (o .unit) at
+
+-- the request's sheet; input after it is 9, before that sheet is applied
+unfoldable pub close : Unit → Parser Ready
+close u = do
+  s ← sheet
+  end
+  pure (record { unit = u; request = s })
+
+-- the settings are applied before the second length is read
+unfoldable pub settle : Unit → Parser Ready
+settle u = do
+  s ← sheet
+  v ← accept (set u s)
+  close v
+
+-- a new unit is rented as soon as the tenancy is read
+unfoldable pub hire : ℕ → ℕ → Parser Ready
+hire n t = do
+  u ← accept (rent (newUnit n) t)
+  settle u
+
+-- unit, tenancy, settings sheet, request sheet: the first refusal met stands
+unfoldable pub benchInput : Parser Ready
+benchInput = do
+  n ← number
+  t ← number
+  hire n t
+
+-- what a request sheet said: its refusal, or the line of its plan
+unfoldable pub Replies : Unit → Out (List ℕ) → List ℕ → Type 0
+Replies u (refused n) line = line ≡ spoken (Refused n)
+Replies u (got copies e) line = (p : Plan) × PlanFor (u .table) copies p × (line ≡ planLine (u .number) (tenancyOf u) p)
+
+-- the line of a unit's answer to a request
+unfoldable pub Asks : Unit → List ℕ → List ℕ → Type 0
+Asks u s line = Replies u (requestSheet (u .number) (tenancyOf u) (u .table .disks) s 0) line
+
+-- the line of an input: of its first refusal, or of the answer to its request
+unfoldable pub Line : Out Ready → List ℕ → Type 0
+Line (refused n) line = line ≡ spoken (Refused n)
+Line (got r e) line = Asks (r .unit) (r .request) line
+
+-- the line stands at the start of the buffer, all else as it was; its length is answered
+pub record Tells (o : Out Ready) (out : List ℕ) (n : ℕ) (after : List ℕ) : Type 0 where
+  pub text : List ℕ
+  pub says : Line o text
+  pub printed : Printed text out n after
+
+-- a rented unit, of those that come from New and the calls
+pub record Let (u : Unit) : Type 0 where
+  pub sound : Sound u
+  pub tenancy : 0 < tenancyOf u

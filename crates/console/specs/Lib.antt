@@ -1,0 +1,6 @@
+pub mod Text
+pub mod Line
+pub mod Printed
+pub mod Frame
+pub mod Call
+pub mod Bench

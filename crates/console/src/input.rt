@@ -1,0 +1,149 @@
+// The bench: an input of unit, tenancy, settings sheet and read request to its line.
+use crate::Span;
+use crate::Word;
+use crate::line::plan_line;
+use crate::line::say;
+use crate::sheet;
+use field::Field;
+use field::Refusal;
+use field::Written;
+use unit::Unit;
+ghost use mathlib.Core.Path.{_≡_};
+ghost use mathlib.Core.List.{List};
+ghost use Prim.Native.Nat.{ℕ, _<_};
+ghost use Rattle.field.specs.Refusal.{numberOf};
+ghost use Rattle.plan.specs.Plan.{Plan};
+ghost use Rattle.plan.specs.Range.{InRange};
+ghost use Rattle.plan.specs.Draft.{planBytes};
+ghost use Rattle.console.specs.Line.{spoken, planLine};
+ghost use Rattle.console.specs.Printed.{Printed};
+ghost use Rattle.console.specs.Bench.{benchInput, Tells, Asks, Let};
+ghost use Rattle.console.specs.Bench.{hire as hireOf};
+ghost use Rattle.console.specs.Bench.{settle as settleOf};
+ghost use Rattle.console.specs.Bench.{close as closeOf};
+
+// The paper's number of a refusal.
+fn number_of(e: Refusal) -> u32
+    ensures { λ r. ⌜ r ≡ numberOf e ⌝ }
+{
+    match e {
+        Refusal::Ends => 1,
+        Refusal::Malformed => 2,
+        Refusal::Kind => 3,
+        Refusal::Unit => 4,
+        Refusal::Tenancy => 5,
+        Refusal::Range => 6,
+        Refusal::NoCopies => 7,
+        Refusal::NotRising => 8,
+        Refusal::Extra => 9,
+        Refusal::NoSettings => 10,
+        Refusal::NoRoom => 11,
+        Refusal::Rented => 12,
+        Refusal::NotAbove => 13,
+        Refusal::NotTenant => 14,
+    }
+}
+
+fn refuse(e: Refusal, line: &mut [u8; 24576]) -> usize
+    ensures { λ r. ⌜ Printed (spoken (Word.Refused (numberOf e))) (now (line .entry)) r (now (line .exit)) ⌝ }
+{
+    say(Word::Refused(number_of(e)), line)
+}
+
+// The line of a plan sheet, from the sheet itself.
+fn show(unit: u32, tenancy: u32, sheet: &[u8], line: &mut [u8; 24576]) -> usize
+    ensures { λ r. ⌜ ((p : Plan) → InRange p → 0 < tenancy → now (sheet .entry) ≡ planBytes unit tenancy p → Printed (planLine unit tenancy p) (now (line .entry)) r (now (line .exit))) ⌝ }
+{
+    let mut disks = [0u8; 1024];
+    let mut short = [0u16; 1024];
+    match plan::read(sheet, unit, tenancy, &mut disks, &mut short) {
+        plan::Answer::Accepted(h) => {
+            let q = h.blocks;
+            let m = h.size;
+            plan_line(unit, tenancy, h.time, &disks[..q], &short[..m], line)
+        }
+        plan::Answer::Refused(e) => refuse(e, line),
+    }
+}
+
+// The request, with room for the longest plan.
+fn ask(u: Unit, request: &[u8], line: &mut [u8; 24576]) -> usize
+    requires { ⌜ Let u ⌝ }
+    ensures { λ r. ⌜ ((text : List ℕ) × Asks u (now (request .entry)) text × Printed text (now (line .entry)) r (now (line .exit))) ⌝ }
+{
+    let number = u.number;
+    let tenancy = u.tenancy();
+    let mut sheet = [0u8; 2964];
+    let planned = u.request(request, &mut sheet);
+    let answer = planned.answer;
+    match answer {
+        Written::Length(n) => show(number, tenancy, &sheet[..n], line),
+        Written::Refused(e) => refuse(e, line),
+    }
+}
+
+// The request's sheet and the end of the input, and then the request.
+fn close(u: Unit, input: &[u8], at: usize, line: &mut [u8; 24576]) -> usize
+    requires { ⌜ Let u ⌝ }
+    ensures { λ r. ⌜ Tells (closeOf u (now (input .entry)) at) (now (line .entry)) r (now (line .exit)) ⌝ }
+{
+    match sheet(input, at) {
+        Span::Part(from, to) => {
+            if to == input.len() {
+                ask(u, &input[from..to], line)
+            } else {
+                refuse(Refusal::Extra, line)
+            }
+        }
+        Span::Refused(e) => refuse(e, line),
+    }
+}
+
+// The settings, and then what is behind them.
+fn settle(u: Unit, input: &[u8], at: usize, line: &mut [u8; 24576]) -> usize
+    requires { ⌜ Let u ⌝ }
+    ensures { λ r. ⌜ Tells (settleOf u (now (input .entry)) at) (now (line .entry)) r (now (line .exit)) ⌝ }
+{
+    match sheet(input, at) {
+        Span::Part(from, to) => {
+            let done = u.settings(&input[from..to]);
+            let verdict = done.answer;
+            match verdict {
+                unit::Answer::Accepted => {
+                    let v = done.unit;
+                    close(v, input, to, line)
+                }
+                unit::Answer::Refused(e) => refuse(e, line),
+            }
+        }
+        Span::Refused(e) => refuse(e, line),
+    }
+}
+
+// A new unit, rented to the tenancy.
+fn hire(number: u32, tenancy: u32, input: &[u8], at: usize, line: &mut [u8; 24576]) -> usize
+    ensures { λ r. ⌜ Tells (hireOf number tenancy (now (input .entry)) at) (now (line .entry)) r (now (line .exit)) ⌝ }
+{
+    let done = Unit::new(number).rent(tenancy);
+    let verdict = done.answer;
+    match verdict {
+        unit::Answer::Accepted => {
+            let u = done.unit;
+            settle(u, input, at, line)
+        }
+        unit::Answer::Refused(e) => refuse(e, line),
+    }
+}
+
+// Stops at the first refusal.
+pub fn bench(input: &[u8], line: &mut [u8; 24576]) -> usize
+    ensures { λ r. ⌜ Tells (benchInput (now (input .entry)) 0) (now (line .entry)) r (now (line .exit)) ⌝ }
+{
+    match field::any(input, 0) {
+        Field::Got(number, at) => match field::any(input, at) {
+            Field::Got(tenancy, next) => hire(number, tenancy, input, next, line),
+            Field::Refused(e) => refuse(e, line),
+        },
+        Field::Refused(e) => refuse(e, line),
+    }
+}

@@ -1,0 +1,26 @@
+/* What a program says on standard error, and how it ends. */
+#ifndef SAY_H
+#define SAY_H
+
+enum {
+    STATUS_DONE = 0,
+    STATUS_BAD = 1,     /* refused, or an input or output that can not be used */
+    STATUS_USAGE = 2    /* called wrongly */
+};
+
+/* The program's name, to stand before its messages. */
+void say_as(const char *program);
+
+/* One line: the program's name and a message. */
+#if defined(__GNUC__)
+__attribute__((format(printf, 1, 2)))
+#endif
+void say(const char *form, ...);
+
+/* A refusal in words with its number, what it was met at (or null), and what to do. */
+void say_refused(unsigned refusal, const char *where, const char *what_to_do);
+
+/* What the reader of a refused sheet can do. */
+const char *remedy(unsigned refusal);
+
+#endif
