@@ -11,6 +11,7 @@ use native.Mathlib.Nat.{mul-mod-right}
 use borrow.Author.Tests.{le-ltb}
 use lib.Dec.{lit<}
 use lib.ListN.{length, take}
+use Rattle.number.specs.Bytes.{Bytes}
 use Rattle.number.specs.Choice.{pick}
 use Rattle.number.proofs.Choice.{pick-false, pick-elim}
 use Rattle.field.specs.Put.{spellAll}
@@ -28,7 +29,7 @@ use Rattle.desk.specs.Desk.{settingsDraftOfBytes, requestDraftOfBytes, W
 use Rattle.desk.proofs.Numbers.{spell-length, numbers-spell}
 use Rattle.desk.proofs.Over.{over-front}
 use Rattle.desk.proofs.Packed.{Unpacked, written-unpacks, plan-unpacks, refusal-unpacks}
-use Rattle.desk.proofs.Reading.{InRange, plan-of-small}
+use Rattle.desk.proofs.Reading.{Packable, plan-of-packable}
 use Rattle.desk.proofs.Writing.{settings-short, request-short}
 
 -- ---- the writers' answer
@@ -107,18 +108,18 @@ request-answerable unit t n copies =
 -- ---- the plan reader's answer
 
 -- Q, R and m of what the sheet says, and no refusal
-pub plan-taken : (unit t : ℕ) (s disks set : List ℕ) (r : ℕ) (disks′ set′ : List ℕ) (p : Plan) (e : ℕ) → PlanRead unit t s disks set r disks′ set′ → planOf unit t s disks set ≡ got p e → Unpacked (length (p .disks)) (p .time) (length (p .short)) r
+pub plan-taken : (unit t : ℕ) (s disks set : List ℕ) (r : ℕ) (disks′ set′ : List ℕ) (p : Plan) (e : ℕ) → Bytes s → PlanRead unit t s disks set r disks′ set′ → planOf unit t s disks set ≡ got p e → Unpacked (length (p .disks)) (p .time) (length (p .short)) r
 unfolding heads readerAnswer
-plan-taken unit t s disks set r disks′ set′ p e w h =
-    let g : InRange p = plan-of-small unit t s disks set p e h in
+plan-taken unit t s disks set r disks′ set′ p e b w h =
+    let g : Packable p = plan-of-packable unit t s disks set p e b h in
     subst (Unpacked (length (p .disks)) (p .time) (length (p .short))) (sym (w .answer ∙ ap (λ (o : Out Plan). readerAnswer (heads o)) h))
     (plan-unpacks (length (p .disks)) (p .time) (length (p .short)) (omega (arith, g .blocks)) (omega (arith, g .time)) (omega (arith, g .size)))
 
 -- the short set is what the first bytes of the lent list say
-pub set-taken : (unit t : ℕ) (s disks set : List ℕ) (r : ℕ) (disks′ set′ : List ℕ) (p : Plan) (e : ℕ) → PlanRead unit t s disks set r disks′ set′ → planOf unit t s disks set ≡ got p e → numbers 2 (take (2 * length (p .short)) set′) ≡ p .short
+pub set-taken : (unit t : ℕ) (s disks set : List ℕ) (r : ℕ) (disks′ set′ : List ℕ) (p : Plan) (e : ℕ) → Bytes s → PlanRead unit t s disks set r disks′ set′ → planOf unit t s disks set ≡ got p e → numbers 2 (take (2 * length (p .short)) set′) ≡ p .short
 unfolding setLeft
-set-taken unit t s disks set r disks′ set′ p e w h =
-    let g : InRange p = plan-of-small unit t s disks set p e h in
+set-taken unit t s disks set r disks′ set′ p e b w h =
+    let g : Packable p = plan-of-packable unit t s disks set p e b h in
     let held : set′ ≡ over (spellAll (bytesOf 2) (p .short)) set = w .members ∙ ap (λ (o : Out Plan). setLeft o set) h in
     ap (λ (x : List ℕ). numbers 2 (take (2 * length (p .short)) x)) held
     ∙ ap (numbers 2) (over-front (spellAll (bytesOf 2) (p .short)) set (2 * length (p .short)) (spell-length 2 (p .short)))

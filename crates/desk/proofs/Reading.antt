@@ -1,5 +1,5 @@
 -- Laws of the plan reader.
---     plan-small     Q, R and m of an accepted sheet
+--     plan-packable     Q, R and m of an accepted sheet, and its short set
 --     read-accepted, read-refused     the two ways in which it ends
 use mathlib.Core.Path.{_≡_, refl, sym, ap, _∙_, subst}
 use mathlib.Core.Bool.{Bool, true, false, _&&_}
@@ -10,24 +10,22 @@ use borrow.Author.Tests.{le-leb, leb-true}
 use lib.ListN.{length, take, drop, length-append}
 use lib.Dec.{leb}
 use lib.Seq.{take-take, length-take-le}
+use Rattle.number.specs.Bytes.{Bytes}
 use Rattle.number.specs.Choice.{pick}
 use Rattle.number.proofs.Choice.{pick-true, pick-false, either}
 use Rattle.field.specs.declared.Refusal.{Refusal}
 use Rattle.field.specs.Refusal.{numberOf}
 use Rattle.field.specs.Put.{spellAll}
-use Rattle.field.specs.Sheet.{Out, got, refused, _>>=_, pure, times}
-use Rattle.field.specs.Field.{inside, rising, climb}
-use Rattle.field.specs.Lists.{All}
-use Rattle.field.proofs.Sheet.{Step, bind-got, after-got, pure-got}
-use Rattle.field.proofs.Spelt.{whole-got}
-use Rattle.field.proofs.Values.{inside-range, rising-within}
+use Rattle.field.specs.Sheet.{Out, got, refused}
+use Rattle.field.specs.Lists.{All, Rises}
 use Rattle.plan.specs.declared.Head.{Head}
 use Rattle.plan.specs.declared.Answer.{Answer}
 use Rattle.plan.specs.declared.Answer.the-variants.{Accepted, Refused}
-use Rattle.plan.specs.Plan.{Plan, ifAny, timeOf, sizeOf, openingOf, listsOf, planFields, planSheet}
+use Rattle.plan.specs.Plan.{Plan, ifAny, planSheet}
+use Rattle.plan.specs.Range.{InRange}
 use Rattle.plan.specs.Receive.{roomFor, settle, heads, over, disksLeft, shortLeft, Received}
 use Rattle.plan.specs.Told.{toldPlan}
-use Rattle.plan.proofs.Checking.{times-length, climb-length}
+use Rattle.plan.proofs.RoundTrip.{sheet-exact}
 use Rattle.desk.specs.Numbers.{bytesOf, numbers, Room}
 use Rattle.desk.specs.Packed.{readerAnswer, Small}
 use Rattle.desk.specs.Desk.{planOf, setLeft, PlanRead}
@@ -36,51 +34,32 @@ use Rattle.desk.proofs.Over.{over-front}
 
 -- ---- how large the values of an accepted sheet are
 
-pub record InRange (p : Plan) : Type 0 where
-  pub blocks : length (p .disks) ≤ 1024
-  pub time : p .time ≤ 1125000000
-  pub size : length (p .short) ≤ 1024
-  pub members : All (λ (b : ℕ). b < 256 ^ 2) (p .short)
-
 any-most : (q n : ℕ) → ifAny q n ≤ n
 unfolding ifAny
 any-most zero n = omega arith
 any-most (suc q) n = omega arith
 
-climb-below : (high : ℕ) (s : List ℕ) → high < 256 ^ 2 → (n floor at : ℕ) (vs : List ℕ) (e : ℕ) → climb n floor high s at ≡ got vs e → All (λ (b : ℕ). b < 256 ^ 2) vs
-unfolding climb All
-climb-below high s l zero floor at vs e h =
-    let q : ([] ≡ vs) × (at ≡ e) = pure-got [] vs s at e h in
-    subst (All (λ (b : ℕ). b < 256 ^ 2)) (q .0) tt
-climb-below high s l (suc n) floor at vs e h =
-    let w : Step (rising floor high s at) (λ v m. (climb n (v + 1) high >>= λ rest. pure (v ∷ rest)) s m) vs e = bind-got (rising floor high) s at vs e _ h in
-    let u : Step (climb n (w .found + 1) high s (w .mid)) (λ rest m. pure (w .found ∷ rest) s m) vs e = bind-got (climb n (w .found + 1) high) s (w .mid) vs e _ (w .last) in
-    let q : (w .found ∷ u .found ≡ vs) × (u .mid ≡ e) = pure-got (w .found ∷ u .found) vs s (u .mid) e (u .last) in
-    subst (All (λ (b : ℕ). b < 256 ^ 2)) (q .0)
-    (omega (arith, rising-within floor high s at _ _ (w .first)), climb-below high s l n (w .found + 1) (w .mid) (u .found) (u .mid) (u .first))
+-- a plan whose values have room in their bits
+pub record Packable (p : Plan) : Type 0 where
+  pub blocks : length (p .disks) ≤ 1024
+  pub time : p .time ≤ 1125000000
+  pub size : length (p .short) ≤ 1024
+  pub members : All (λ (b : ℕ). b < 256 ^ 2) (p .short)
 
-lists-range : (q r : ℕ) (s : List ℕ) (at : ℕ) (p : Plan) (e : ℕ) → q ≤ 1024 → r ≤ 1125000000 → listsOf q r s at ≡ got p e → InRange p
-unfolding listsOf sizeOf
-lists-range q r s at p e few soon h =
-    let ds : Step (times q (inside 0 63) s at) (λ ds n. (sizeOf q >>= λ m. climb m 0 (q - 1) >>= λ bs. pure (record { time = r; disks = ds; short = bs })) s n) p e = bind-got (times q (inside 0 63)) s at p e _ h in
-    let m : Step (sizeOf q s (ds .mid)) (λ m n. (climb m 0 (q - 1) >>= λ bs. pure (record { time = r; disks = ds .found; short = bs })) s n) p e = bind-got (sizeOf q) s (ds .mid) p e _ (ds .last) in
-    let bs : Step (climb (m .found) 0 (q - 1) s (m .mid)) (λ bs n. pure (record { time = r; disks = ds .found; short = bs }) s n) p e = bind-got (climb (m .found) 0 (q - 1)) s (m .mid) p e _ (m .last) in
-    let is : (_≡_ {A = Plan} (record { time = r; disks = ds .found; short = bs .found }) p) × (bs .mid ≡ e) = pure-got _ p s (bs .mid) e (bs .last) in
+below-all : (floor high : ℕ) (vs : List ℕ) → high < 256 ^ 2 → Rises floor high vs → All (λ (b : ℕ). b < 256 ^ 2) vs
+unfolding Rises All
+below-all floor high [] l r = tt
+below-all floor high (v ∷ vs) l r = (omega (arith, r .1), below-all (v + 1) high vs l (r .2))
+
+pub plan-packable : (unit t : ℕ) (s : List ℕ) (p : Plan) (e : ℕ) → Bytes s → planSheet unit t s 0 ≡ got p e → Packable p
+plan-packable unit t s p e b h =
+    let r : InRange p = sheet-exact s b unit t p e h .1 in
     record {
-      blocks = omega (arith, ap (λ (x : Plan). length (x .disks)) (is .0), times-length _ s q at _ _ (ds .first));
-      time = omega (arith, ap (λ (x : Plan). x .time) (is .0));
-      size = omega (arith, ap (λ (x : Plan). length (x .short)) (is .0), climb-length _ s _ 0 _ _ _ (bs .first), inside-range s _ _ q _ _ (m .first) .1);
-      members = subst (λ (x : Plan). All (λ (b : ℕ). b < 256 ^ 2) (x .short)) (is .0) (climb-below (q - 1) s (omega arith) _ 0 _ _ _ (bs .first));
+      blocks = r .few;
+      time = omega (arith, r .time-to, any-most (length (p .disks)) 1125000000);
+      size = omega (arith, r .size-to, r .few);
+      members = below-all 0 (length (p .disks) - 1) (p .short) (omega (arith, r .few)) (r .blocks);
     }
-
-pub plan-small : (unit t : ℕ) (s : List ℕ) (p : Plan) (e : ℕ) → planSheet unit t s 0 ≡ got p e → InRange p
-unfolding planSheet planFields timeOf
-plan-small unit t s p e h =
-    let f : planFields unit t s 0 ≡ got p e = whole-got (planFields unit t) s p e h .0 in
-    let o : Step (openingOf unit t s 0) (λ _ n. (inside 0 1024 >>= λ q. timeOf q >>= λ r. listsOf q r) s n) p e = after-got (openingOf unit t) s 0 p e _ f in
-    let q : Step (inside 0 1024 s (o .mid)) (λ q n. (timeOf q >>= λ r. listsOf q r) s n) p e = bind-got (inside 0 1024) s (o .mid) p e _ (o .last) in
-    let r : Step (timeOf (q .found) s (q .mid)) (λ r n. listsOf (q .found) r s n) p e = bind-got (timeOf (q .found)) s (q .mid) p e _ (q .last) in
-    lists-range (q .found) (r .found) s (r .mid) p e (inside-range s _ 0 1024 _ _ (q .first) .1) (omega (arith, inside-range s _ _ _ _ _ (r .first) .1, any-most (q .found) 1125000000)) (r .last)
 
 -- ---- room for a short set
 
@@ -96,12 +75,12 @@ settle-same (refused n) disks a b h = refl
 settle-same (got p e) disks a b h = ap (λ (x : Bool). pick (leb (length (p .disks)) (length disks) && x) (got p e) (refused 11)) (h p e refl)
 
 -- a list of 1,024 numbers has room for as many as any longer one
-pub room-same : (unit t : ℕ) (s disks short set : List ℕ) → Room (length set / 2) (length short) → settle (planSheet unit t s 0) disks short ≡ planOf unit t s disks set
+pub room-same : (unit t : ℕ) (s disks short set : List ℕ) → Bytes s → Room (length set / 2) (length short) → settle (planSheet unit t s 0) disks short ≡ planOf unit t s disks set
 unfolding planOf
-room-same unit t s disks short set r =
+room-same unit t s disks short set b r =
     settle-same (planSheet unit t s 0) disks short (numbers 2 set)
     (λ p e h.
-    let k : length (p .short) ≤ 1024 = plan-small unit t s p e h .size in
+    let k : length (p .short) ≤ 1024 = plan-packable unit t s p e b h .size in
     let n : length (numbers 2 set) ≡ length set / 2 = numbers-length 2 set in
     leb-same (length (p .short)) (length short) (length (numbers 2 set)) (λ x. omega (arith, r .below)) (λ x. r .enough (length (p .short)) k (omega arith)))
 
@@ -114,9 +93,9 @@ settled-got (got x n) disks short p e h =
     (λ t. sym (pick-true _ _ t) ∙ h)
     (λ f. let v : refused 11 ≡ got p e = sym (pick-false _ _ f) ∙ h in absurd (let z : _≡_ {A = ℕ} 0 1 = cc in omega arith))
 
-pub plan-of-small : (unit t : ℕ) (s disks set : List ℕ) (p : Plan) (e : ℕ) → planOf unit t s disks set ≡ got p e → InRange p
+pub plan-of-packable : (unit t : ℕ) (s disks set : List ℕ) (p : Plan) (e : ℕ) → Bytes s → planOf unit t s disks set ≡ got p e → Packable p
 unfolding planOf
-plan-of-small unit t s disks set p e h = plan-small unit t s p e (settled-got (planSheet unit t s 0) disks (numbers 2 set) p e h)
+plan-of-packable unit t s disks set p e b h = plan-packable unit t s p e b (settled-got (planSheet unit t s 0) disks (numbers 2 set) p e h)
 
 -- ---- the sheet is accepted
 
@@ -124,7 +103,7 @@ pub record Plans (unit t : ℕ) (s disks short : List ℕ) (h : Head) : Type 0 w
   pub plan : Plan
   pub end : ℕ
   pub is : settle (planSheet unit t s 0) disks short ≡ got plan end
-  pub range : InRange plan
+  pub range : Packable plan
   pub room : length (plan .short) ≤ length short
   pub blocks : h .blocks ≡ length (plan .disks)
   pub time : h .time ≡ plan .time
@@ -134,10 +113,10 @@ and-right : (a b : Bool) → (a && b) ≡ true → b ≡ true
 and-right true b h = h
 and-right false b h = absurd (let o : _≡_ {A = ℕ} 0 1 = cc in omega arith)
 
-settled : (unit t : ℕ) (s disks short : List ℕ) (h : Head) (n : ℕ) (o : Out Plan) → planSheet unit t s 0 ≡ o → got h n ≡ heads (settle o disks short) → Plans unit t s disks short h
+settled : (unit t : ℕ) (s disks short : List ℕ) (h : Head) (n : ℕ) (o : Out Plan) → Bytes s → planSheet unit t s 0 ≡ o → got h n ≡ heads (settle o disks short) → Plans unit t s disks short h
 unfolding settle roomFor heads
-settled unit t s disks short h n (refused m) q w = absurd (let o : _≡_ {A = ℕ} 0 1 = cc in omega arith)
-settled unit t s disks short h n (got p e) q w =
+settled unit t s disks short h n (refused m) b q w = absurd (let o : _≡_ {A = ℕ} 0 1 = cc in omega arith)
+settled unit t s disks short h n (got p e) b q w =
     either (leb (length (p .disks)) (length disks) && leb (length (p .short)) (length short))
     (λ y.
     let x : pick (leb (length (p .disks)) (length disks) && leb (length (p .short)) (length short)) (got p e) (refused 11) ≡ got p e = pick-true _ _ y in
@@ -147,7 +126,7 @@ settled unit t s disks short h n (got p e) q w =
       plan = p;
       end = e;
       is = ap (λ (z : Out Plan). settle z disks short) q ∙ x;
-      range = plan-small unit t s p e q;
+      range = plan-packable unit t s p e b q;
       room = leb-true _ _ (and-right (leb (length (p .disks)) (length disks)) _ y);
       blocks = ap (λ (z : Head). z .blocks) i;
       time = ap (λ (z : Head). z .time) i;
@@ -178,17 +157,17 @@ unfolding heads setLeft
 unset (got p e) set h = absurd (let o : _≡_ {A = ℕ} 0 1 = cc in omega arith)
 unset (refused m) set h = refl
 
-module _ {unit t : ℕ} {s disks short : List ℕ} {a : Answer} {disks′ short′ : List ℕ} (g : Received (planSheet unit t s 0) (length s) disks short a disks′ short′) where
+module _ {unit t : ℕ} {s disks short : List ℕ} {a : Answer} {disks′ short′ : List ℕ} (b : Bytes s) (g : Received (planSheet unit t s 0) (length s) disks short a disks′ short′) where
   pub accepted : {h : Head} → a ≡ Accepted h → Plans unit t s disks short h
   unfolding toldPlan
-  accepted {h} e = settled unit t s disks short h (length s) (planSheet unit t s 0) refl (ap (toldPlan (length s)) (sym e) ∙ g .answer)
+  accepted {h} e = settled unit t s disks short h (length s) (planSheet unit t s 0) b refl (ap (toldPlan (length s)) (sym e) ∙ g .answer)
 
   -- the two lists and the answer
   pub read-accepted : (set blocks : List ℕ) {h : Head} {r : ℕ} {after : List ℕ} → a ≡ Accepted h → Room (length set / 2) (length short) → take (length short) blocks ≡ short′ → r ≡ readerAnswer (toldPlan (length s) (Accepted h)) → after ≡ over (spellAll (bytesOf 2) (take (h .size) blocks)) set → PlanRead unit t s disks set r disks′ after
   unfolding toldPlan setLeft shortLeft
   read-accepted set blocks {h} {r} {after} e room held answer left =
       let p : Plans unit t s disks short h = accepted e in
-      let same : settle (planSheet unit t s 0) disks short ≡ planOf unit t s disks set = room-same unit t s disks short set room in
+      let same : settle (planSheet unit t s 0) disks short ≡ planOf unit t s disks set = room-same unit t s disks short set b room in
       let members : short′ ≡ over (p .plan .short) short = g .members ∙ ap (λ (o : Out Plan). shortLeft o short) (p .is) in
       let first : take (h .size) blocks ≡ p .plan .short =
       sym (take-take (h .size) (length short) blocks (omega (arith, p .size, p .room)))
@@ -203,7 +182,7 @@ module _ {unit t : ℕ} {s disks short : List ℕ} {a : Answer} {disks′ short�
   pub read-refused : (set : List ℕ) {e : Refusal} {r : ℕ} → a ≡ Refused e → Room (length set / 2) (length short) → r ≡ numberOf e → PlanRead unit t s disks set r disks′ set
   unfolding toldPlan readerAnswer
   read-refused set {e} {r} q room answer =
-      let same : settle (planSheet unit t s 0) disks short ≡ planOf unit t s disks set = room-same unit t s disks short set room in
+      let same : settle (planSheet unit t s 0) disks short ≡ planOf unit t s disks set = room-same unit t s disks short set b room in
       let v : refused (numberOf e) ≡ heads (planOf unit t s disks set) = ap (toldPlan (length s)) (sym q) ∙ g .answer ∙ ap heads same in
       record {
         answer = answer ∙ ap readerAnswer v;

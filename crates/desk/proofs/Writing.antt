@@ -18,13 +18,11 @@ use Rattle.field.specs.declared.Written.the-variants.{Length, Refused}
 use Rattle.field.specs.Put.{spellAll}
 use Rattle.field.specs.Send.{Draft, sheet, none, toldWritten, answerTo, leftBy, Sent}
 use Rattle.field.specs.Sheet.{got, refused}
-use Rattle.settings.specs.Row.{rowBytes}
 use Rattle.settings.specs.Draft.{rowsOf, sheetBytes, settingsDraft}
-use Rattle.settings.specs.Parts.{rowsWidth}
-use Rattle.settings.proofs.Rows.{length-rows, rows-small}
+use Rattle.settings.proofs.Longest.{longest-written as longest-settings}
 use Rattle.settings.proofs.Writing.{Sheeted, draft-either, sheet-length}
 use Rattle.request.specs.Draft.{requestDraft, blockBytes}
-use Rattle.request.proofs.RoundTrip.{longest-written}
+use Rattle.request.proofs.RoundTrip.{longest-written as longest-request}
 use Rattle.desk.specs.Numbers.{numbers, broken, usable}
 use Rattle.desk.specs.Packed.{writerAnswer, Short}
 use Rattle.desk.specs.Desk.{settingsDraftOfBytes, requestDraftOfBytes, Wrote}
@@ -93,17 +91,9 @@ module _ (unit t : ℕ) (costs loads delays : List ℕ) where
   settings-usable c l d =
       pick-false _ _ (ap (λ (x : Bool). x || (broken 4 loads || broken 4 delays)) (is-usable 4 64 costs c .0) ∙ ap (λ (x : Bool). x || broken 4 delays) (is-usable 4 64 loads l .0) ∙ is-usable 4 64 delays d .0)
 
+-- document 01's longest settings sheet has 652 bytes
 pub settings-short : (unit t : ℕ) (cs ls ds bs : List ℕ) → settingsDraft unit t cs ls ds ≡ sheet bs → length bs < 2 ^ 32
-unfolding rowsWidth
-settings-short unit t cs ls ds bs h =
-    draft-either unit t cs ls ds
-    (λ n. let q : sheet bs ≡ none 6 = sym h ∙ n in absurd (let z : _≡_ {A = ℕ} 0 1 = cc in omega arith))
-    (λ w.
-    let q : sheet bs ≡ sheet (sheetBytes unit t (rowsOf cs ls ds)) = sym h ∙ w .is in
-    let e : bs ≡ sheetBytes unit t (rowsOf cs ls ds) = cc in
-    let rows : length (rowsOf cs ls ds) ≡ length cs = length-rows cs ls ds (w .loads) (w .delays) in
-    let small : length (spellAll rowBytes (rowsOf cs ls ds)) ≤ 640 = rows-small cs ls ds (length (spellAll rowBytes (rowsOf cs ls ds))) (w .loads) (w .delays) (w .few) (sym (pick-true _ _ (w .good))) in
-    omega (arith, ap length e, sheet-length unit t (rowsOf cs ls ds) (omega (arith, rows, w .few)), width-bounds unit, width-bounds t))
+settings-short unit t cs ls ds bs h = omega (arith, longest-settings unit t cs ls ds bs h)
 
 -- ---- lists of copy numbers
 
@@ -124,5 +114,6 @@ module _ (unit t n : ℕ) (copies : List ℕ) where
   unfolding requestDraftOfBytes
   request-usable h = pick-false _ _ (is-usable 8 1024 copies h .0)
 
+-- document 01's longest read request has 9,229 bytes
 pub request-short : (unit t n : ℕ) (ms bs : List ℕ) → requestDraft unit t n ms ≡ sheet bs → length bs < 2 ^ 32
-request-short unit t n ms bs h = omega (arith, longest-written unit t n ms bs h)
+request-short unit t n ms bs h = omega (arith, longest-request unit t n ms bs h)

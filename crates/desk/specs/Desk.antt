@@ -2,6 +2,7 @@
 --     settingsDraftOfBytes, requestDraftOfBytes     the sheet of lists of bytes, or why there is none
 --     Wrote          a writer's answer, and the buffer afterwards
 --     planOf         what a plan sheet says, for two lists of bytes
+--     setLeft        the bytes of the short set afterwards
 --     PlanRead       the plan reader's answer, and the two lists afterwards
 use Prim.Native.Nat.{ℕ}
 use mathlib.Core.Bool.{_||_}
@@ -18,20 +19,22 @@ use Rattle.plan.specs.Receive.{settle, heads, over, disksLeft}
 use Rattle.desk.specs.Numbers.{bytesOf, numbers, broken}
 use Rattle.desk.specs.Packed.{writerAnswer, readerAnswer}
 
--- lists broken inside a number are 6 before the rest
+-- the settings sheet of four-byte numbers; a list broken inside a number is 6 before the rest
 unfoldable pub settingsDraftOfBytes : ℕ → ℕ → List ℕ → List ℕ → List ℕ → Draft
 settingsDraftOfBytes unit t costs loads delays =
     pick (broken 4 costs || (broken 4 loads || broken 4 delays)) (none 6)
     (settingsDraft unit t (numbers 4 costs) (numbers 4 loads) (numbers 4 delays))
 
+-- the read request of eight-byte numbers; a list broken inside a number is 6 before the rest
 unfoldable pub requestDraftOfBytes : ℕ → ℕ → ℕ → List ℕ → Draft
 requestDraftOfBytes unit t n copies = pick (broken 8 copies) (none 6) (requestDraft unit t n (numbers 8 copies))
 
+-- the sheet stands at the start of the buffer, the rest as it was; on refusal nothing has changed
 pub record Wrote (d : Draft) (out : List ℕ) (r : ℕ) (after : List ℕ) : Type 0 where
   pub answer : r ≡ writerAnswer (answerTo d out)
   pub held : after ≡ leftBy d out
 
--- 11 where the disks have more than a byte each, or the short set more than two: an odd last byte is no room
+-- the sheet's plan; 11 where Q is above the bytes of the first list or m above the pairs of the second: an odd last byte is no room
 unfoldable pub planOf : ℕ → ℕ → List ℕ → List ℕ → List ℕ → Out Plan
 planOf unit t sheet disks set = settle (planSheet unit t sheet 0) disks (numbers 2 set)
 
@@ -40,6 +43,7 @@ unfoldable pub setLeft : Out Plan → List ℕ → List ℕ
 setLeft (got p e) set = over (spellAll (bytesOf 2) (p .short)) set
 setLeft (refused n) set = set
 
+-- Q, R and m, the disks by block in the first list, the short set in the second
 pub record PlanRead (unit t : ℕ) (sheet disks set : List ℕ) (r : ℕ) (disks′ set′ : List ℕ) : Type 0 where
   pub answer : r ≡ readerAnswer (heads (planOf unit t sheet disks set))
   pub blocks : disks′ ≡ disksLeft (planOf unit t sheet disks set) disks

@@ -20,27 +20,33 @@ packWritten n = n * 2 ^ 32
 unfoldable pub packPlan : ℕ → ℕ → ℕ → ℕ
 packPlan q r m = q * 2 ^ 8 + r * 2 ^ 19 + m * 2 ^ 50
 
--- on refusal all other bits are 0
+-- what a writer answers: on refusal all other bits are 0
 unfoldable pub writerAnswer : Out Unit → ℕ
 writerAnswer (got u n) = packWritten n
 writerAnswer (refused e) = e
 
+-- what the plan reader answers
 unfoldable pub readerAnswer : Out Head → ℕ
 readerAnswer (got h n) = packPlan (h .blocks) (h .time) (h .size)
 readerAnswer (refused e) = e
 
+-- bits 0 to 7
 unfoldable pub refusalIn : ℕ → ℕ
 refusalIn a = a % 2 ^ 8
 
+-- bits 32 to 63
 unfoldable pub lengthIn : ℕ → ℕ
 lengthIn a = a / 2 ^ 32
 
+-- bits 8 to 18
 unfoldable pub blocksIn : ℕ → ℕ
 blocksIn a = a / 2 ^ 8 % 2 ^ 11
 
+-- bits 19 to 49
 unfoldable pub timeIn : ℕ → ℕ
 timeIn a = a / 2 ^ 19 % 2 ^ 31
 
+-- bits 50 to 60
 unfoldable pub sizeIn : ℕ → ℕ
 sizeIn a = a / 2 ^ 50 % 2 ^ 11
 

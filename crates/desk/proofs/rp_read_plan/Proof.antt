@@ -1,5 +1,6 @@
 -- `rp_read_plan`: the sheet is read into a list of our own, as long as the bytes have room for; what was read is then put into the bytes.
 use borrow.Author.Needs.{needs}
+use Rattle.number.specs.Bytes.{Bytes}
 use Rattle.desk.proofs.Reading.{accepted, plans-small, room-part, pairs-fit, read-accepted, read-refused}
 use lib.ListN.{drop, replicate}
 use mathlib.Core.List.{_++_}
@@ -25,13 +26,30 @@ enum-known-h : tie.Need-enum-known-h
 enum-known-h c = search needs
 
 slice-aggregate-put-pairs : tie.Need-slice-aggregate-put-pairs
-slice-aggregate-put-pairs c = sym (length-front {A = ℕ} (replicate 1024 0) (c .before .before .before .before .before .before .before .read .last .1 .1 .1 .1 .0) (c .before .before .before .before .before .before .before .before .before .before .room .result) (c .before .before .before .before .before .before .before .read .kept .1 .1 .1 .1 .0))
+slice-aggregate-put-pairs c =
+    let at-read = c .before .before .before .before .before .before .before in
+    let at-room = at-read .before .before .before in
+    sym (length-front {A = ℕ} (replicate 1024 0) (at-read .read .last .1 .1 .1 .1 .0) (at-room .room .result) (at-read .read .kept .1 .1 .1 .1 .0))
 
 put-pairs-requires : tie.Need-put-pairs-requires
-put-pairs-requires c κs = pairs-fit (replicate 1024 0) (c .before .before .before .before .before .before .before .before .read .last .1 .1 .1 .1 .0) (c .before .before .before .before .before .before .before .before .before .before .before .before .before .before .before .before .args .short .now) (c .before .before .before .before .before .before .before .before .before .before .before .room .result) (accepted (c .before .before .before .before .before .before .before .before .read .ensures) (c .before .before .before .h .given .1)) (c .before .before .before .before .before .before .before .before .before .before .before .room .ensures) (c .before .before .before .before .before .before .before .before .before .before .before .room .ensures .within) (c .before .before .before .before .before .before .before .before .read .kept .1 .1 .1 .1 .0)
+unfolding Bytes
+put-pairs-requires c κs =
+    let at-read = c .before .before .before .before .before .before .before .before in
+    let at-room = at-read .before .before .before in
+    let at-start = at-room .before .before .before .before .before in
+    let bytes : Bytes (at-room .before .before .before .before .before .args .sheet .now) = λ i. at-room .before .before .before .before .shared-slice-known .given i .fits in
+    pairs-fit (replicate 1024 0) (at-read .read .last .1 .1 .1 .1 .0) (at-start .args .short .now) (at-room .room .result)
+    (accepted bytes (at-read .read .ensures) (c .before .before .before .h .given .1))
+    (at-room .room .ensures) (at-room .room .ensures .within) (at-read .read .kept .1 .1 .1 .1 .0)
 
 pack-plan-requires : tie.Need-pack-plan-requires
-pack-plan-requires c κs = plans-small (accepted (c .before .before .before .before .before .before .before .before .before .before .before .read .ensures) (c .before .before .before .before .before .before .h .given .1))
+unfolding Bytes
+pack-plan-requires c κs =
+    let at-read = c .before .before .before .before .before .before .before .before .before .before .before in
+    let at-room = at-read .before .before .before in
+    let bytes : Bytes (at-room .before .before .before .before .before .args .sheet .now) = λ i. at-room .before .before .before .before .shared-slice-known .given i .fits in
+    plans-small
+    (accepted bytes (at-read .read .ensures) (c .before .before .before .before .before .before .h .given .1))
 
 enum-known-e : tie.Need-enum-known-e
 enum-known-e c = search needs
@@ -46,7 +64,17 @@ same-length-2 : tie.Need-same-length-2
 same-length-2 c = search needs
 
 returns : tie.Need-returns
-returns c = read-accepted (c .before .before .before .before .before .before .before .before .before .before .before .before .read .ensures) (c .before .before .before .before .before .before .before .before .before .before .before .before .before .before .before .before .before .before .before .before .args .short .now) (c .before .before .before .before .before .before .before .before .before .before .before .before .read .last .1 .1 .1 .1 .0 ++ drop (c .before .before .before .before .before .before .before .before .before .before .before .before .before .before .before .room .result) (replicate 1024 0)) (c .before .before .before .before .before .before .before .h .given .1) (room-part (replicate 1024 0) (c .before .before .before .before .before .before .before .before .before .before .before .before .before .before .before .room .ensures) (c .before .before .before .before .before .before .before .before .before .before .before .before .before .before .before .room .ensures .within)) (take-at _ _ _ (c .before .before .before .before .before .before .before .before .before .before .before .before .read .kept .1 .1 .1 .1 .0)) (c .pack-plan .ensures _) (c .before .before .before .put-pairs .ensures)
+unfolding Bytes
+returns c =
+    let at-read = c .before .before .before .before .before .before .before .before .before .before .before .before in
+    let at-room = at-read .before .before .before in
+    let at-start = at-room .before .before .before .before .before in
+    let bytes : Bytes (at-room .before .before .before .before .before .args .sheet .now) = λ i. at-room .before .before .before .before .shared-slice-known .given i .fits in
+    read-accepted bytes (at-read .read .ensures)
+    (at-start .args .short .now) (at-read .read .last .1 .1 .1 .1 .0 ++ drop (at-room .room .result) (replicate 1024 0))
+    (c .before .before .before .before .before .before .before .h .given .1) (room-part (replicate 1024 0) (at-room .room .ensures) (at-room .room .ensures .within))
+    (take-at _ _ _ (at-read .read .kept .1 .1 .1 .1 .0))
+    (c .pack-plan .ensures _) (c .before .before .before .put-pairs .ensures)
 
 same-length-3 : tie.Need-same-length-3
 same-length-3 c = search needs
@@ -55,7 +83,14 @@ same-length-4 : tie.Need-same-length-4
 same-length-4 c = search needs
 
 returns-2 : tie.Need-returns-2
-returns-2 c = read-refused (c .before .before .before .before .before .before .before .read .ensures) (c .before .before .before .before .before .before .before .before .before .before .before .before .before .before .before .args .short .now) (c .before .before .e .given .1) (room-part (replicate 1024 0) (c .before .before .before .before .before .before .before .before .before .before .room .ensures) (c .before .before .before .before .before .before .before .before .before .before .room .ensures .within)) (c .number-of .ensures)
+unfolding Bytes
+returns-2 c =
+    let at-read = c .before .before .before .before .before .before .before in
+    let at-room = at-read .before .before .before in
+    let at-start = at-room .before .before .before .before .before in
+    let bytes : Bytes (at-room .before .before .before .before .before .args .sheet .now) = λ i. at-room .before .before .before .before .shared-slice-known .given i .fits in
+    read-refused bytes (at-read .read .ensures) (at-start .args .short .now) (c .before .before .e .given .1)
+    (room-part (replicate 1024 0) (at-room .room .ensures) (at-room .room .ensures .within)) (c .number-of .ensures)
 
 pub rp-read-plan-spec : {M : Type 1} → statement M
 rp-read-plan-spec =
