@@ -239,7 +239,7 @@ module _ (unit t : ℕ) (s disks short : List ℕ) where
 
 -- ---- the request's answer
 
-sent-sheet : (bs out : List ℕ) (n : ℕ) (after : List ℕ) → Sent (drafted bs) out (Length n) after → (n ≤ length out) × (take n after ≡ bs)
+sent-sheet : (bs out : List ℕ) (n : ℕ) (after : List ℕ) → Sent (drafted bs) out (Length n) after → (n ≤ length out) × (take n after ≡ bs) × (n ≡ length bs)
 unfolding toldWritten answerTo leftBy paste
 sent-sheet bs out n after w =
     either (leb (length bs) (length out))
@@ -247,30 +247,31 @@ sent-sheet bs out n after w =
     let a : got tt n ≡ got tt (length bs) = w .answer ∙ pick-true _ _ t in
     let k : n ≡ length bs = cc in
     let x : after ≡ bs ++ drop (0 + length bs) out = w .held ∙ pick-true _ _ t in
-    (omega (arith, leb-true (length bs) (length out) t), ap (take n) x ∙ take-at bs (drop (0 + length bs) out) n (sym k)))
+    (omega (arith, leb-true (length bs) (length out) t), ap (take n) x ∙ take-at bs (drop (0 + length bs) out) n (sym k), k))
     (λ f.
     let a : got tt n ≡ refused 11 = w .answer ∙ pick-false _ _ f in
     absurd (let z : _≡_ {A = ℕ} 0 1 = cc in omega arith))
 
-pub sent-plan : (unit t : ℕ) (p : Plan) → InRange p → (out : List ℕ) (n : ℕ) (after : List ℕ) → Sent (planDraft unit t p) out (Length n) after → (n ≤ length out) × (take n after ≡ planBytes unit t p)
+pub plan-drafted : (unit t : ℕ) (p : Plan) → InRange p → planDraft unit t p ≡ drafted (planBytes unit t p)
 unfolding planDraft counted
-sent-plan unit t p r out n after w =
-    let e : planDraft unit t p ≡ drafted (planBytes unit t p) = pick-true _ _ (both (le-leb (length (p .disks)) 1024 (r .few)) (le-leb (length (p .short)) 1024 (omega (arith, r .few, r .size-to)))) in
-    sent-sheet (planBytes unit t p) out n after (subst (λ (d : Draft). Sent d out (Length n) after) e w)
+plan-drafted unit t p r = pick-true _ _ (both (le-leb (length (p .disks)) 1024 (r .few)) (le-leb (length (p .short)) 1024 (omega (arith, r .few, r .size-to))))
+
+pub sent-all : (unit t : ℕ) (p : Plan) → InRange p → (out : List ℕ) (n : ℕ) (after : List ℕ) → Sent (planDraft unit t p) out (Length n) after → (n ≤ length out) × (take n after ≡ planBytes unit t p) × (n ≡ length (planBytes unit t p))
+sent-all unit t p r out n after w = sent-sheet (planBytes unit t p) out n after (subst (λ (d : Draft). Sent d out (Length n) after) (plan-drafted unit t p r) w)
 
 module _ (u : Unit) (out : List ℕ) where
   -- an accepted request's sheet lies within the buffer
   reply-within : (o : Out (List ℕ)) (n : ℕ) (after : List ℕ) → Replied u o out (Length n) after → n ≤ length out
   unfolding Replied Sheeted toldWritten
   reply-within (refused m) n after w = absurd (let a : got tt n ≡ refused m = w .0 in let z : _≡_ {A = ℕ} 0 1 = cc in omega arith)
-  reply-within (got copies e) n after w = sent-plan (u .number) (tenancyOf u) (w .0) (w .1 .range) out n after (w .2) .0
+  reply-within (got copies e) n after w = sent-all (u .number) (tenancyOf u) (w .0) (w .1 .range) out n after (w .2) .0
 
   module _ {buf buf′ : List ℕ} {m : ℕ} where
     reply-shown : (o : Out (List ℕ)) (n : ℕ) (after : List ℕ) → Replied u o out (Length n) after → ((p : Plan) → InRange p → take n after ≡ planBytes (u .number) (tenancyOf u) p → Printed (planLine (u .number) (tenancyOf u) p) buf m buf′) → (text : List ℕ) × Replies u o text × Printed text buf m buf′
     unfolding Replied Sheeted Replies toldWritten
     reply-shown (refused k) n after w f = absurd (let a : got tt n ≡ refused k = w .0 in let z : _≡_ {A = ℕ} 0 1 = cc in omega arith)
     reply-shown (got copies e) n after w f =
-        let x : (n ≤ length out) × (take n after ≡ planBytes (u .number) (tenancyOf u) (w .0)) = sent-plan (u .number) (tenancyOf u) (w .0) (w .1 .range) out n after (w .2) in
+        let x : (n ≤ length out) × (take n after ≡ planBytes (u .number) (tenancyOf u) (w .0)) × (n ≡ length (planBytes (u .number) (tenancyOf u) (w .0))) = sent-all (u .number) (tenancyOf u) (w .0) (w .1 .range) out n after (w .2) in
         (planLine (u .number) (tenancyOf u) (w .0), (w .0, w .1, refl), f (w .0) (w .1 .range) (x .1))
 
     reply-refused : (o : Out (List ℕ)) (e : Refusal) (after : List ℕ) → 2964 ≤ length out → Replied u o out (NotWritten e) after → Printed (spoken (Refused (numberOf e))) buf m buf′ → (text : List ℕ) × Replies u o text × Printed text buf m buf′

@@ -3,3 +3,4 @@ pub mod Digits
 pub mod Lines
 pub mod Framing
 pub mod Benching
+pub mod Serving

@@ -3,7 +3,7 @@
 --     asked        one call from the start of what has been read
 --     toldCall     what each answer says
 --     Framed       the promise: the answer, and that its sheet lies within what has been read
-use Prim.Native.Nat.{ℕ}
+use Prim.Native.Nat.{ℕ, _≤_}
 use mathlib.Core.Path.{_≡_}
 use mathlib.Core.List.{List}
 use lib.Dec.{eqb}
@@ -62,11 +62,11 @@ toldCall s (Request room from e) = got (requests room (part s from e)) e
 toldCall s (Return t e) = got (returns t) e
 toldCall s (Refused e) = refused (numberOf e)
 
--- the sheet of a call lies within what has been read
+-- the sheet of a call lies within what has been read, and a room is at most 4,096
 unfoldable pub Held : List ℕ → Call → Type 0
 Held s (Rent t e) = Unit
 Held s (Settings from e) = Within s from e
-Held s (Request room from e) = Within s from e
+Held s (Request room from e) = Within s from e × (room ≤ 4096)
 Held s (Return t e) = Unit
 Held s (Refused e) = Unit
 

@@ -4,3 +4,4 @@ pub mod Printed
 pub mod Frame
 pub mod Call
 pub mod Bench
+pub mod Shelf

@@ -1,8 +1,7 @@
 // The bench: an input of unit, tenancy, settings sheet and read request to its line.
 use crate::Span;
-use crate::Word;
 use crate::line::plan_line;
-use crate::line::say;
+use crate::refuse;
 use crate::sheet;
 use field::Field;
 use field::Refusal;
@@ -11,44 +10,15 @@ use unit::Unit;
 ghost use mathlib.Core.Path.{_≡_};
 ghost use mathlib.Core.List.{List};
 ghost use Prim.Native.Nat.{ℕ, _<_};
-ghost use Rattle.field.specs.Refusal.{numberOf};
 ghost use Rattle.plan.specs.Plan.{Plan};
 ghost use Rattle.plan.specs.Range.{InRange};
 ghost use Rattle.plan.specs.Draft.{planBytes};
-ghost use Rattle.console.specs.Line.{spoken, planLine};
+ghost use Rattle.console.specs.Line.{planLine};
 ghost use Rattle.console.specs.Printed.{Printed};
 ghost use Rattle.console.specs.Bench.{benchInput, Tells, Asks, Let};
 ghost use Rattle.console.specs.Bench.{hire as hireOf};
 ghost use Rattle.console.specs.Bench.{settle as settleOf};
 ghost use Rattle.console.specs.Bench.{close as closeOf};
-
-// The paper's number of a refusal.
-fn number_of(e: Refusal) -> u32
-    ensures { λ r. ⌜ r ≡ numberOf e ⌝ }
-{
-    match e {
-        Refusal::Ends => 1,
-        Refusal::Malformed => 2,
-        Refusal::Kind => 3,
-        Refusal::Unit => 4,
-        Refusal::Tenancy => 5,
-        Refusal::Range => 6,
-        Refusal::NoCopies => 7,
-        Refusal::NotRising => 8,
-        Refusal::Extra => 9,
-        Refusal::NoSettings => 10,
-        Refusal::NoRoom => 11,
-        Refusal::Rented => 12,
-        Refusal::NotAbove => 13,
-        Refusal::NotTenant => 14,
-    }
-}
-
-fn refuse(e: Refusal, line: &mut [u8; 24576]) -> usize
-    ensures { λ r. ⌜ Printed (spoken (Word.Refused (numberOf e))) (now (line .entry)) r (now (line .exit)) ⌝ }
-{
-    say(Word::Refused(number_of(e)), line)
-}
 
 // The line of a plan sheet, from the sheet itself.
 fn show(unit: u32, tenancy: u32, sheet: &[u8], line: &mut [u8; 24576]) -> usize

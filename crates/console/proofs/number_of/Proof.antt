@@ -2,8 +2,8 @@
 use borrow.Author.Needs.{needs}
 use Rattle.field.specs.Refusal.{numberOf}
 use mathlib.Core.Path.{sym, ap}
-use Rattle.console.proofs.input.number_of.Statement.{statement}
-use Rattle.console.proofs.input.number_of.Tie as tie
+use Rattle.console.proofs.number_of.Statement.{statement}
+use Rattle.console.proofs.number_of.Tie as tie
 
 enum-told : tie.Need-enum-told
 enum-told c = search needs

@@ -5,8 +5,8 @@ use Rattle.console.specs.Line.{spoken}
 use Rattle.console.specs.declared.Word.the-variants.{Refused}
 use Prim.Native.Nat.{ℕ}
 use mathlib.Core.Path.{ap}
-use Rattle.console.proofs.input.refuse.Statement.{statement}
-use Rattle.console.proofs.input.refuse.Tie as tie
+use Rattle.console.proofs.refuse.Statement.{statement}
+use Rattle.console.proofs.refuse.Tie as tie
 
 number-of-requires : tie.Need-number-of-requires
 number-of-requires c κs = search needs
