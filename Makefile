@@ -3,8 +3,9 @@
 # make tools     the desk's and the tenant's programs, in C
 # make hire      an example hire from end to end: desk, shelf, tenant
 # make compare   20,000 inputs to each program and to the second program
+# make edits     every wrong program and wrong promise on file, those that `make test` leaves out among them
 # make race      the benchmark against LEMON; `race/run docs` also puts its tables into docs/SPEED.md
-.PHONY: plan test programs tools hire second host-tests compare race
+.PHONY: plan test programs library tools hire second second-tests stored-runs host-tests compared compare edits race
 
 SECOND := $(CURDIR)/target/second/release/second
 LIBRARY := $(CURDIR)/target/staticlib/libdesk.a
@@ -15,12 +16,15 @@ plan:
 	rt check bench >target/plan.log 2>&1 || { cat target/plan.log; exit 1; }
 	./target/bin/bench <crates/bench/stdin
 
-# The proved programs, and the library for C.
+# The proved programs.
 programs:
 	rt check bench shelf
+
+# The library for C; after the programs, as two runs of rt do not share a folder.
+library: programs
 	rt staticlib desk
 
-tools: programs
+tools: library
 	$(MAKE) -C hosts LIB=$(LIBRARY)
 
 hire: tools
@@ -30,20 +34,34 @@ hire: tools
 second:
 	cd second && CARGO_TARGET_DIR=../target/second cargo build --offline --release --quiet
 
-host-tests: programs second
+second-tests: second
 	cd second && CARGO_TARGET_DIR=../target/second cargo test --offline --release --quiet
 	$(SECOND) vectors second/vectors/sheets.txt
-	LIB=$(LIBRARY) SECOND=$(SECOND) sh tests/hosts/run.sh
+
+# The stored runs come from the second program, and the shelf's from words.
+stored-runs: second
+	$(SECOND) stream crates/shelf/run.txt | cmp - crates/shelf/stdin
+	$(SECOND) shelf <crates/shelf/stdin | cmp - crates/shelf/stdout
+	$(SECOND) bench <crates/bench/stdin | cmp - crates/bench/stdout
+
+compared: programs second
 	$(SECOND) compare bench 4000 1 ./target/bin/bench
-	$(SECOND) compare shelf 4000 1 ./target/bin/shelf
+	$(SECOND) compare shelf 20000 1 ./target/bin/shelf
+
+host-tests: second-tests stored-runs compared library
+	LIB=$(LIBRARY) SECOND=$(SECOND) sh tests/hosts/run.sh
 
 compare: programs second
 	$(SECOND) compare bench $(COUNT) 1 ./target/bin/bench
 	$(SECOND) compare shelf $(COUNT) 1 ./target/bin/shelf
 
+edits:
+	tests/edits.sh
+
 race: programs
 	race/run
 
 # The proofs come last, so that the last line is theirs.
-test: host-tests
+test:
+	$(MAKE) -j2 --output-sync=target --no-print-directory host-tests
 	rt ci

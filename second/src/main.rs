@@ -13,6 +13,7 @@ mod number;
 mod planner;
 mod random;
 mod refusal;
+mod run;
 mod sheets;
 mod shelf;
 mod unit;
@@ -21,7 +22,7 @@ mod vectors;
 use std::io::{self, BufReader, BufWriter, Read, Write};
 use std::process::ExitCode;
 
-const USAGE: &str = "usage: second bench | shelf | desk | vectors FILE
+const USAGE: &str = "usage: second bench | shelf | desk | vectors FILE | stream FILE
        second input bench|shelf|desk SEED INDEX
        second compare bench|shelf|desk COUNT SEED PROGRAM [ARGUMENT...]";
 
@@ -33,6 +34,7 @@ fn main() -> ExitCode {
         ["shelf"] => run_shelf(),
         ["desk"] => run_desk(),
         ["vectors", file] => run_vectors(file),
+        ["stream", file] => run_stream(file),
         ["input", program, seed, index] => run_input(program, seed, index),
         ["compare", program, count, seed, _, ..] => run_compare(program, count, seed, &words[4..]),
         _ => Err(USAGE.to_string()),
@@ -73,6 +75,14 @@ fn run_vectors(file: &str) -> Result<(), String> {
     let text = std::fs::read_to_string(file).map_err(|error| format!("{file}: {error}"))?;
     println!("{}", vectors::run(&text)?);
     Ok(())
+}
+
+/// Writes the bytes of a run of the shelf, if this program answers it with the run's lines.
+fn run_stream(file: &str) -> Result<(), String> {
+    let text = std::fs::read_to_string(file).map_err(|error| format!("{file}: {error}"))?;
+    io::stdout()
+        .write_all(&run::stream(&text)?)
+        .map_err(|error| error.to_string())
 }
 
 fn parse(word: &str) -> Result<u64, String> {

@@ -1,26 +1,23 @@
 -- Laws of the bench: a call's outcome, what is shown of a plan sheet, and each stage of the input.
 use mathlib.Core.Path.{_≡_, refl, sym, ap, _∙_, subst}
-use mathlib.Core.Bool.{Bool, true, false}
-use mathlib.Core.List.{List, [], _∷_, _++_}
-use Prim.Native.Nat.{ℕ, _+_, _-_, _^_, _≤_, _<_}
+use mathlib.Core.Bool.{true}
+use mathlib.Core.List.{List}
+use Prim.Native.Nat.{ℕ, _-_, _^_, _≤_, _<_}
 use native.Mathlib.Omega.{arith}
-use borrow.Author.Tests.{le-leb, leb-true, ltb-true}
-use lib.Dec.{leb, ltb}
+use borrow.Author.Tests.{le-leb, ltb-true}
+use lib.Dec.{ltb}
 use lib.ListN.{length, take, drop, length-append}
 use lib.Seq.{take-at}
 use Rattle.number.specs.Choice.{pick}
-use Rattle.number.proofs.Choice.{pick-true, pick-false, pick-elim, either}
+use Rattle.number.proofs.Choice.{pick-true, pick-elim}
 use Rattle.field.specs.declared.Refusal.{Refusal}
-use Rattle.field.specs.declared.Refusal.the-variants.{Extra}
 use Rattle.field.specs.declared.Written.{Written}
 use Rattle.field.specs.declared.Written.the-variants.{Length}
 use Rattle.field.specs.declared.Written.the-variants.{Refused as NotWritten}
 use Rattle.field.specs.Field.{number, end}
-use Rattle.field.specs.Put.{paste}
 use Rattle.field.specs.Refusal.{numberOf}
-use Rattle.field.specs.Send.{Draft, toldWritten, answerTo, leftBy, Sent}
-use Rattle.field.specs.Send.{sheet as drafted}
-use Rattle.field.specs.Sheet.{Out, got, refused, Parser, _>>=_, _>>_, pure}
+use Rattle.field.specs.Send.{toldWritten}
+use Rattle.field.specs.Sheet.{Out, got, refused, pure}
 use Rattle.field.proofs.Readers.{end-here, end-extra}
 use Rattle.field.proofs.Sheet.{next, then, stops, halts}
 use Rattle.settings.specs.declared.Table.{Table}
@@ -29,7 +26,7 @@ use Rattle.plan.specs.declared.Head.{Head}
 use Rattle.plan.specs.declared.Answer.{Answer}
 use Rattle.plan.specs.declared.Answer.the-variants.{Accepted}
 use Rattle.plan.specs.declared.Answer.the-variants.{Refused as NoPlan}
-use Rattle.plan.specs.Draft.{planBytes, planDraft, counted}
+use Rattle.plan.specs.Draft.{planBytes}
 use Rattle.plan.specs.Plan.{Plan, planSheet}
 use Rattle.plan.specs.Range.{InRange}
 use Rattle.plan.specs.Receive.{roomFor, settle as settledOf, heads, over, Received}
@@ -44,20 +41,20 @@ use Rattle.unit.specs.declared.Answer.the-variants.{Refused as Denied}
 use Rattle.unit.specs.declared.Done.{Done}
 use Rattle.unit.specs.declared.Planned.{Planned}
 use Rattle.unit.specs.declared.Unit.{Unit}
-use Rattle.unit.specs.Life.{Verdict, accepted, Outcome, takes, refuses, rent, settled, set}
-use Rattle.unit.specs.Life.{refused as denied}
-use Rattle.unit.specs.Request.{PlanFor, Sheeted, Replied, Answered}
+use Rattle.unit.specs.Life.{accepted, Outcome, takes, refuses, rent, settled, set}
+use Rattle.unit.specs.Request.{Sheeted, Replied, Answered}
 use Rattle.unit.specs.Sound.{Sound}
 use Rattle.unit.specs.Told.{told, toldAnswer}
 use Rattle.unit.specs.Unit.{newUnit, tenancyOf, tenanted, withTable}
 use Rattle.unit.proofs.Plans.{plan-for-unique}
 use Rattle.unit.proofs.Sound.{sound-new, sound-rent, sound-set}
-use Rattle.console.specs.declared.Word.the-variants.{Refused}
+use Rattle.line.specs.declared.Word.the-variants.{Refused}
 use Rattle.console.specs.Bench.{Ready, judge, accept, close, settle, hire, benchInput, Replies, Asks, Line, Tells, Let}
-use Rattle.console.specs.Frame.{sheet, part, Within}
-use Rattle.console.specs.Line.{spoken, planLine}
-use Rattle.console.specs.Printed.{Printed}
-use Rattle.console.proofs.Adding.{printed-unique}
+use Rattle.stream.specs.Frame.{sheet, part}
+use Rattle.line.specs.Line.{spoken, planLine}
+use Rattle.line.specs.Printed.{Printed}
+use Rattle.line.proofs.Adding.{printed-unique}
+use Rattle.line.proofs.Sending.{sent-all}
 
 -- ---- a call's outcome
 
@@ -238,26 +235,6 @@ module _ (unit t : ℕ) (s disks short : List ℕ) where
       omega arith
 
 -- ---- the request's answer
-
-sent-sheet : (bs out : List ℕ) (n : ℕ) (after : List ℕ) → Sent (drafted bs) out (Length n) after → (n ≤ length out) × (take n after ≡ bs) × (n ≡ length bs)
-unfolding toldWritten answerTo leftBy paste
-sent-sheet bs out n after w =
-    either (leb (length bs) (length out))
-    (λ t.
-    let a : got tt n ≡ got tt (length bs) = w .answer ∙ pick-true _ _ t in
-    let k : n ≡ length bs = cc in
-    let x : after ≡ bs ++ drop (0 + length bs) out = w .held ∙ pick-true _ _ t in
-    (omega (arith, leb-true (length bs) (length out) t), ap (take n) x ∙ take-at bs (drop (0 + length bs) out) n (sym k), k))
-    (λ f.
-    let a : got tt n ≡ refused 11 = w .answer ∙ pick-false _ _ f in
-    absurd (let z : _≡_ {A = ℕ} 0 1 = cc in omega arith))
-
-pub plan-drafted : (unit t : ℕ) (p : Plan) → InRange p → planDraft unit t p ≡ drafted (planBytes unit t p)
-unfolding planDraft counted
-plan-drafted unit t p r = pick-true _ _ (both (le-leb (length (p .disks)) 1024 (r .few)) (le-leb (length (p .short)) 1024 (omega (arith, r .few, r .size-to))))
-
-pub sent-all : (unit t : ℕ) (p : Plan) → InRange p → (out : List ℕ) (n : ℕ) (after : List ℕ) → Sent (planDraft unit t p) out (Length n) after → (n ≤ length out) × (take n after ≡ planBytes unit t p) × (n ≡ length (planBytes unit t p))
-sent-all unit t p r out n after w = sent-sheet (planBytes unit t p) out n after (subst (λ (d : Draft). Sent d out (Length n) after) (plan-drafted unit t p r) w)
 
 module _ (u : Unit) (out : List ℕ) where
   -- an accepted request's sheet lies within the buffer

@@ -17,10 +17,10 @@ use Rattle.unit.specs.Life.{refused as denied}
 use Rattle.unit.specs.Request.{PlanFor}
 use Rattle.unit.specs.Sound.{Sound}
 use Rattle.unit.specs.Unit.{newUnit, tenancyOf}
-use Rattle.console.specs.declared.Word.the-variants.{Refused}
-use Rattle.console.specs.Frame.{sheet}
-use Rattle.console.specs.Line.{spoken, planLine}
-use Rattle.console.specs.Printed.{Printed}
+use Rattle.line.specs.declared.Word.the-variants.{Refused}
+use Rattle.stream.specs.Frame.{sheet}
+use Rattle.line.specs.Line.{spoken, planLine}
+use Rattle.line.specs.Printed.{Printed}
 
 -- a unit with its settings, and the request's sheet
 pub record Ready : Type 0 where

@@ -1,100 +1,118 @@
-// What the programs print and read: lines of text, calls framed in a stream of bytes, the bench's input.
-mod input;
-mod line;
-mod shelf;
-mod stream;
-
+// The bench: an input of unit, tenancy, settings sheet and read request to its line.
 use field::Field;
 use field::Refusal;
+use field::Written;
+use line::refuse;
+use stream::Span;
+use stream::sheet;
 use unit::Unit;
 ghost use mathlib.Core.Path.{_≡_};
-ghost use Rattle.field.specs.Refusal.{numberOf};
-ghost use Rattle.console.specs.Line.{spoken};
-ghost use Rattle.console.specs.Printed.{Printed};
-ghost use Rattle.console.specs.Frame.{Spans};
-ghost use Rattle.console.specs.Frame.{sheet as framedSheet};
-pub use input::bench;
-pub use line::plan_line;
-pub use line::say;
-pub use line::sheet_line;
-pub use shelf::serve;
-pub use stream::read_call;
+ghost use mathlib.Core.List.{List};
+ghost use Prim.Native.Nat.{ℕ, _<_};
+ghost use Rattle.plan.specs.Plan.{Plan};
+ghost use Rattle.plan.specs.Range.{InRange};
+ghost use Rattle.plan.specs.Draft.{planBytes};
+ghost use Rattle.line.specs.Line.{planLine};
+ghost use Rattle.line.specs.Printed.{Printed};
+ghost use Rattle.console.specs.Bench.{benchInput, Tells, Asks, Let};
+ghost use Rattle.console.specs.Bench.{hire as hireOf};
+ghost use Rattle.console.specs.Bench.{settle as settleOf};
+ghost use Rattle.console.specs.Bench.{close as closeOf};
 
-// What a line can say in a word, or in a word and a number.
-pub enum Word {
-    Rented,
-    Set,
-    Returned,
-    Refused(u32),
-    Stopped(u32),
-}
-
-// Where a framed sheet stands, or why there is none.
-enum Span {
-    Part(usize, usize),
-    Refused(Refusal),
-}
-
-// What a call in the shelf's stream asks: where its sheet stands, and the place after the call.
-pub enum Call {
-    Rent(u32, usize),
-    Settings(usize, usize),
-    Request(usize, usize, usize),
-    Return(u32, usize),
-    Refused(Refusal),
-}
-
-// The length of a sheet, and that sheet.
-fn sheet(s: &[u8], at: usize) -> Span
-    ensures { λ r. ⌜ Spans (now (s .entry)) (framedSheet (now (s .entry)) at) r ⌝ }
+// The line of a plan sheet, from the sheet itself.
+fn show(unit: u32, tenancy: u32, sheet: &[u8], line: &mut [u8; 24576]) -> usize
+    ensures { λ r. ⌜ ((p : Plan) → InRange p → 0 < tenancy → now (sheet .entry) ≡ planBytes unit tenancy p → Printed (planLine unit tenancy p) (now (line .entry)) r (now (line .exit))) ⌝ }
 {
-    match field::any(s, at) {
-        Field::Got(n, next) => {
-            if 9229 < n {
-                return Span::Refused(Refusal::Range);
-            }
-            if s.len() - next < n as usize {
-                return Span::Refused(Refusal::Ends);
-            }
-            Span::Part(next, next + n as usize)
+    let mut disks = [0u8; 1024];
+    let mut short = [0u16; 1024];
+    match plan::read(sheet, unit, tenancy, &mut disks, &mut short) {
+        plan::Answer::Accepted(h) => {
+            let q = h.blocks;
+            let m = h.size;
+            line::plan_line(unit, tenancy, h.time, &disks[..q], &short[..m], line)
         }
-        Field::Refused(e) => Span::Refused(e),
+        plan::Answer::Refused(e) => refuse(e, line),
     }
 }
 
-// What a turn of the shelf comes to: the bytes used (none where more are wanted, or the stream is damaged), the length of the line,
-// and the unit afterwards.
-pub struct Turn {
-    pub used: usize,
-    pub length: usize,
-    pub unit: Unit,
-}
-
-// The paper's number of a refusal.
-fn number_of(e: Refusal) -> u32
-    ensures { λ r. ⌜ r ≡ numberOf e ⌝ }
+// The request, with room for the longest plan.
+fn ask(u: Unit, request: &[u8], line: &mut [u8; 24576]) -> usize
+    requires { ⌜ Let u ⌝ }
+    ensures { λ r. ⌜ ((text : List ℕ) × Asks u (now (request .entry)) text × Printed text (now (line .entry)) r (now (line .exit))) ⌝ }
 {
-    match e {
-        Refusal::Ends => 1,
-        Refusal::Malformed => 2,
-        Refusal::Kind => 3,
-        Refusal::Unit => 4,
-        Refusal::Tenancy => 5,
-        Refusal::Range => 6,
-        Refusal::NoCopies => 7,
-        Refusal::NotRising => 8,
-        Refusal::Extra => 9,
-        Refusal::NoSettings => 10,
-        Refusal::NoRoom => 11,
-        Refusal::Rented => 12,
-        Refusal::NotAbove => 13,
-        Refusal::NotTenant => 14,
+    let number = u.number;
+    let tenancy = u.tenancy();
+    let mut sheet = [0u8; 2964];
+    let planned = u.request(request, &mut sheet);
+    let answer = planned.answer;
+    match answer {
+        Written::Length(n) => show(number, tenancy, &sheet[..n], line),
+        Written::Refused(e) => refuse(e, line),
     }
 }
 
-// The line of a refusal.
-fn refuse(e: Refusal, line: &mut [u8; 24576]) -> usize
-    ensures { λ r. ⌜ Printed (spoken (Word.Refused (numberOf e))) (now (line .entry)) r (now (line .exit)) ⌝ }
+// The request's sheet and the end of the input, and then the request.
+fn close(u: Unit, input: &[u8], at: usize, line: &mut [u8; 24576]) -> usize
+    requires { ⌜ Let u ⌝ }
+    ensures { λ r. ⌜ Tells (closeOf u (now (input .entry)) at) (now (line .entry)) r (now (line .exit)) ⌝ }
 {
-    say(Word::Refused(number_of(e)), line)
+    match sheet(input, at) {
+        Span::Part(from, to) => {
+            if to == input.len() {
+                ask(u, &input[from..to], line)
+            } else {
+                refuse(Refusal::Extra, line)
+            }
+        }
+        Span::Refused(e) => refuse(e, line),
+    }
+}
+
+// The settings, and then what is behind them.
+fn settle(u: Unit, input: &[u8], at: usize, line: &mut [u8; 24576]) -> usize
+    requires { ⌜ Let u ⌝ }
+    ensures { λ r. ⌜ Tells (settleOf u (now (input .entry)) at) (now (line .entry)) r (now (line .exit)) ⌝ }
+{
+    match sheet(input, at) {
+        Span::Part(from, to) => {
+            let done = u.settings(&input[from..to]);
+            let verdict = done.answer;
+            match verdict {
+                unit::Answer::Accepted => {
+                    let v = done.unit;
+                    close(v, input, to, line)
+                }
+                unit::Answer::Refused(e) => refuse(e, line),
+            }
+        }
+        Span::Refused(e) => refuse(e, line),
+    }
+}
+
+// A new unit, rented to the tenancy.
+fn hire(number: u32, tenancy: u32, input: &[u8], at: usize, line: &mut [u8; 24576]) -> usize
+    ensures { λ r. ⌜ Tells (hireOf number tenancy (now (input .entry)) at) (now (line .entry)) r (now (line .exit)) ⌝ }
+{
+    let done = Unit::new(number).rent(tenancy);
+    let verdict = done.answer;
+    match verdict {
+        unit::Answer::Accepted => {
+            let u = done.unit;
+            settle(u, input, at, line)
+        }
+        unit::Answer::Refused(e) => refuse(e, line),
+    }
+}
+
+// Stops at the first refusal.
+pub fn bench(input: &[u8], line: &mut [u8; 24576]) -> usize
+    ensures { λ r. ⌜ Tells (benchInput (now (input .entry)) 0) (now (line .entry)) r (now (line .exit)) ⌝ }
+{
+    match field::any(input, 0) {
+        Field::Got(number, at) => match field::any(input, at) {
+            Field::Got(tenancy, next) => hire(number, tenancy, input, next, line),
+            Field::Refused(e) => refuse(e, line),
+        },
+        Field::Refused(e) => refuse(e, line),
+    }
 }

@@ -3,9 +3,9 @@
 --     plan-taken, set-taken   what it takes out of the plan reader's answer, and out of the bytes of the short set
 --     settings-of-numbers, request-of-numbers     lists laid out as bytes give the sheets of those lists
 use mathlib.Core.Path.{_≡_, refl, sym, ap, _∙_, subst}
-use mathlib.Core.Bool.{Bool, true, false, _||_}
+use mathlib.Core.Bool.{Bool, false}
 use mathlib.Core.List.{List, [], _∷_}
-use Prim.Native.Nat.{ℕ, _*_, _%_, _^_, _≤_, _<_}
+use Prim.Native.Nat.{ℕ, _*_, _%_, _^_, _<_}
 use native.Mathlib.Omega.{arith}
 use native.Mathlib.Nat.{mul-mod-right}
 use borrow.Author.Tests.{le-ltb}
@@ -21,10 +21,10 @@ use Rattle.field.specs.Lists.{All}
 use Rattle.settings.specs.Draft.{settingsDraft}
 use Rattle.settings.proofs.Writing.{draft-either}
 use Rattle.request.specs.Draft.{checked, requestDraft}
-use Rattle.plan.specs.Plan.{Plan, planSheet}
+use Rattle.plan.specs.Plan.{Plan}
 use Rattle.plan.specs.Receive.{heads, over}
 use Rattle.desk.specs.Numbers.{bytesOf, numbers, broken}
-use Rattle.desk.specs.Packed.{packWritten, writerAnswer, readerAnswer, refusalIn, lengthIn}
+use Rattle.desk.specs.Packed.{writerAnswer, readerAnswer, refusalIn, lengthIn}
 use Rattle.desk.specs.Desk.{settingsDraftOfBytes, requestDraftOfBytes, Wrote, planOf, setLeft, PlanRead}
 use Rattle.desk.proofs.Numbers.{spell-length, numbers-spell}
 use Rattle.desk.proofs.Over.{over-front}

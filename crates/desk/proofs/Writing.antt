@@ -6,22 +6,20 @@ use mathlib.Core.Path.{_≡_, refl, sym, ap, _∙_}
 use mathlib.Core.Bool.{Bool, true, false, _||_}
 use mathlib.Core.Logic.{⊎-elim}
 use mathlib.Core.List.{List}
-use Prim.Native.Nat.{ℕ, _^_, _≤_, _<_}
+use Prim.Native.Nat.{ℕ, _^_, _<_}
 use native.Mathlib.Omega.{arith}
 use borrow.Author.Tests.{lt-ltb}
 use lib.ListN.{length}
 use lib.Dec.{leb}
 use Rattle.number.proofs.Choice.{pick-true, pick-false, pick-elim, either}
-use Rattle.number.proofs.Encode.{width-bounds}
 use Rattle.field.specs.declared.Written.{Written}
 use Rattle.field.specs.declared.Written.the-variants.{Length, Refused}
-use Rattle.field.specs.Put.{spellAll}
 use Rattle.field.specs.Send.{Draft, sheet, none, toldWritten, answerTo, leftBy, Sent}
 use Rattle.field.specs.Sheet.{got, refused}
-use Rattle.settings.specs.Draft.{rowsOf, sheetBytes, settingsDraft}
+use Rattle.settings.specs.Draft.{settingsDraft}
 use Rattle.settings.proofs.Longest.{longest-written as longest-settings}
-use Rattle.settings.proofs.Writing.{Sheeted, draft-either, sheet-length}
-use Rattle.request.specs.Draft.{requestDraft, blockBytes}
+use Rattle.settings.proofs.Writing.{Sheeted, draft-either}
+use Rattle.request.specs.Draft.{requestDraft}
 use Rattle.request.proofs.RoundTrip.{longest-written as longest-request}
 use Rattle.desk.specs.Numbers.{numbers, broken, usable}
 use Rattle.desk.specs.Packed.{writerAnswer, Short}

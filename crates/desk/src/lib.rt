@@ -1,12 +1,10 @@
 // The desk end for C: bytes to lists, one call, one packed number. Bytes of a number come lowest first.
-use field::Refusal;
 use field::Written;
 use plan::Answer;
 ghost use mathlib.Core.Path.{_≡_};
 ghost use Prim.Native.Nat.{ℕ, _+_, _*_, _/_, _≤_, _<_};
-ghost use lib.ListN.{length, take};
+ghost use lib.ListN.{length, take, replicate};
 ghost use Rattle.field.specs.Put.{spellAll};
-ghost use Rattle.field.specs.Refusal.{numberOf};
 ghost use Rattle.field.specs.Send.{toldWritten, Sent};
 ghost use Rattle.settings.specs.Draft.{settingsDraft};
 ghost use Rattle.plan.specs.Receive.{over};
@@ -15,28 +13,6 @@ ghost use Rattle.desk.specs.Numbers.{numberAt, bytesOf, numbers, usable,
 ghost use Rattle.desk.specs.Packed.{writerAnswer, readerAnswer, Short, Small};
 ghost use Rattle.desk.specs.Desk.{settingsDraftOfBytes, requestDraftOfBytes, Wrote, PlanRead};
 
-// The number of a refusal.
-fn number_of(e: Refusal) -> u64
-    ensures { λ r. ⌜ r ≡ numberOf e ⌝ }
-{
-    match e {
-        Refusal::Ends => 1,
-        Refusal::Malformed => 2,
-        Refusal::Kind => 3,
-        Refusal::Unit => 4,
-        Refusal::Tenancy => 5,
-        Refusal::Range => 6,
-        Refusal::NoCopies => 7,
-        Refusal::NotRising => 8,
-        Refusal::Extra => 9,
-        Refusal::NoSettings => 10,
-        Refusal::NoRoom => 11,
-        Refusal::Rented => 12,
-        Refusal::NotAbove => 13,
-        Refusal::NotTenant => 14,
-    }
-}
-
 // A writer's answer: the length from bit 32 on, or the refusal.
 fn pack_written(w: Written) -> u64
     requires { ⌜ Short w ⌝ }
@@ -44,7 +20,7 @@ fn pack_written(w: Written) -> u64
 {
     match w {
         Written::Length(n) => n as u64 * 4_294_967_296,
-        Written::Refused(e) => number_of(e),
+        Written::Refused(e) => field::number_of(e) as u64,
     }
 }
 
@@ -60,7 +36,7 @@ fn pack_plan(a: Answer) -> u64
             let m = h.size as u64;
             q * 256 + time * 524_288 + m * 1_125_899_906_842_624
         }
-        Answer::Refused(e) => number_of(e),
+        Answer::Refused(e) => field::number_of(e) as u64,
     }
 }
 
@@ -99,30 +75,34 @@ fn eight_at(bytes: &[u8], at: usize) -> u64
     four_at(bytes, at) as u64 + 4_294_967_296 * four_at(bytes, at + 4) as u64
 }
 
-// The numbers of a list of costs, loads or delays, put at the start of a list.
-fn fours(bytes: &[u8], out: &mut [u32])
-    requires { ⌜ length (now bytes) / 4 ≤ length (now out) ⌝ }
-    ensures { λ _. ⌜ now (out .exit) ≡ over (numbers 4 (now (bytes .entry))) (now (out .entry)) ⌝ }
+// The numbers of a list of costs, loads or delays, in the first of 64 places.
+fn fours(bytes: &[u8]) -> [u32; 64]
+    requires { ⌜ length (now bytes) / 4 ≤ 64 ⌝ }
+    ensures { λ r. ⌜ r ≡ over (numbers 4 (now (bytes .entry))) (replicate 64 0) ⌝ }
 {
     let n = bytes.len() / 4;
+    let mut out = [0u32; 64];
     let mut i = 0;
     while i < n {
         out[i] = four_at(bytes, 4 * i);
         i += 1;
     }
+    out
 }
 
-// The copy numbers of a list of blocks, put at the start of a list.
-fn eights(bytes: &[u8], out: &mut [u64])
-    requires { ⌜ length (now bytes) / 8 ≤ length (now out) ⌝ }
-    ensures { λ _. ⌜ now (out .exit) ≡ over (numbers 8 (now (bytes .entry))) (now (out .entry)) ⌝ }
+// The copy numbers of a list of blocks, in the first of 1,024 places.
+fn eights(bytes: &[u8]) -> [u64; 1024]
+    requires { ⌜ length (now bytes) / 8 ≤ 1024 ⌝ }
+    ensures { λ r. ⌜ r ≡ over (numbers 8 (now (bytes .entry))) (replicate 1024 0) ⌝ }
 {
     let n = bytes.len() / 8;
+    let mut out = [0u64; 1024];
     let mut i = 0;
     while i < n {
         out[i] = eight_at(bytes, 8 * i);
         i += 1;
     }
+    out
 }
 
 // Puts the first m numbers of a list at the start of a buffer, two bytes each.
@@ -151,12 +131,9 @@ fn send_settings(
     requires { ⌜ (length (now costs) / 4 ≤ 64) × (length (now loads) / 4 ≤ 64) × (length (now delays) / 4 ≤ 64) ⌝ }
     ensures { λ r. ⌜ Sent (settingsDraft unit tenancy (numbers 4 (now (costs .entry))) (numbers 4 (now (loads .entry))) (numbers 4 (now (delays .entry)))) (now (out .entry)) r (now (out .exit)) ⌝ }
 {
-    let mut c = [0u32; 64];
-    let mut l = [0u32; 64];
-    let mut d = [0u32; 64];
-    fours(costs, &mut c);
-    fours(loads, &mut l);
-    fours(delays, &mut d);
+    let c = fours(costs);
+    let l = fours(loads);
+    let d = fours(delays);
     let disks = costs.len() / 4;
     let k = loads.len() / 4;
     let n = delays.len() / 4;
@@ -201,8 +178,7 @@ pub extern "C" fn rp_write_request(
     if !usable(copies, 8, 1024) {
         return 6;
     }
-    let mut blocks = [0u64; 1024];
-    eights(copies, &mut blocks);
+    let blocks = eights(copies);
     let n = copies.len() / 8;
     pack_written(request::write(unit, tenancy, disks, &blocks[..n], out))
 }
@@ -233,6 +209,6 @@ pub extern "C" fn rp_read_plan(
             put_pairs(&blocks, h.size, short);
             pack_plan(Answer::Accepted(h))
         }
-        Answer::Refused(e) => number_of(e),
+        Answer::Refused(e) => field::number_of(e) as u64,
     }
 }

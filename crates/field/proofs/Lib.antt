@@ -5,6 +5,8 @@ pub mod Puts
 pub mod Spell
 pub mod Read
 pub mod Spelt
+pub mod Whole
+pub mod Opened
 pub mod Unique
 pub mod Lists
 pub mod Sends

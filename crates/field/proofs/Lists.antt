@@ -5,14 +5,13 @@
 --     reads-times, reads-climb      reading what was written
 --     times-spelt, climb-spelt      the bytes of what was read
 use mathlib.Core.Path.{_≡_, refl, sym, ap, _∙_, subst}
-use mathlib.Core.Bool.{Bool, true}
 use mathlib.Core.List.{List, [], _∷_, _++_, append-assoc, append-nil}
 use Prim.Native.Nat.{ℕ, zero, suc, _+_, _-_, _^_, _≤_, _<_}
 use native.Mathlib.Omega.{arith}
 use lib.ListN.{length}
 use Rattle.number.specs.Bytes.{Bytes}
 use Rattle.number.specs.Encode.{encode}
-use Rattle.field.specs.Sheet.{Out, got, refused, Parser, andThen, _>>=_, _>>_, pure, require, times}
+use Rattle.field.specs.Sheet.{Out, got, refused, Parser, andThen, _>>=_, pure, times}
 use Rattle.field.specs.Field.{rising, climb}
 use Rattle.field.specs.Lists.{All, Rises}
 use Rattle.field.specs.Put.{spellAll}

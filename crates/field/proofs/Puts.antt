@@ -1,9 +1,11 @@
 -- Laws of fields put into a lent buffer.
 --     put-past, put-of     what one field leaves
 --     written-none, written-more     these bytes from here on, all else as it was: no field yet, and one more
---     written-length, written-join, put-one, written-as     the buffer's length; bytes behind bytes; one field; other names
-use mathlib.Core.Path.{_≡_, refl, sym, ap, _∙_}
-use mathlib.Core.List.{List, [], _∷_, _++_, append-assoc}
+--     written-length, written-join, written-as     the buffer's length; bytes behind bytes; other names
+--     put-one, put-then, put-three, put-behind     one field; one before what follows it; three; one behind what was written
+--     front-room            where two parts have room, the first has
+use mathlib.Core.Path.{_≡_, sym, ap, _∙_}
+use mathlib.Core.List.{List, [], _++_, append-assoc}
 use Prim.Native.Nat.{ℕ, _+_, _-_, _≤_, _<_}
 use native.Mathlib.Omega.{arith}
 use borrow.Author.Tests.{le-leb, lt-leb, leb-true, leb-false}
@@ -11,9 +13,9 @@ use borrow.Rule.Slice.PartMut.{putMid}
 use lib.Dec.{leb}
 use lib.ListN.{length, take, drop, length-append, length-drop, take-append-drop}
 use lib.Seq.{length-take-le, drop-drop, take-at, drop-append-add}
-use Rattle.number.specs.Encode.{encode, widthOf, Wrote, written, putFirst, fits}
+use Rattle.number.specs.Encode.{encode, widthOf, Wrote, written, fits}
 use Rattle.number.proofs.Choice.{pick-true, pick-false, pick-elim, either}
-use Rattle.number.proofs.Encode.{width-bounds, wrote-room, wrote-none}
+use Rattle.number.proofs.Encode.{wrote-room, wrote-none}
 use Rattle.number.proofs.Part.{rest, put-rest}
 use Rattle.field.specs.Put.{paste, hasRoom, Put, Written}
 
@@ -128,6 +130,27 @@ written-join {out} {at} {bs} {mid} {p} {cs} {after} {next} f g =
 
 pub put-one : {v : ℕ} {out : List ℕ} {at next : ℕ} {after : List ℕ} → Put v out at next after → at + widthOf v ≤ length out → Written out at (encode v) after next
 put-one {v} {out} {at} f h = written-more (written-none out at (omega arith)) f h
+
+-- a field before what follows it
+pub put-then : {v : ℕ} {out : List ℕ} {at p : ℕ} {mid cs after : List ℕ} {next : ℕ} → Put v out at p mid → at + length (encode v ++ cs) ≤ length out → (p + length cs ≤ length mid → Written mid p cs after next) → Written out at (encode v ++ cs) after next
+unfolding widthOf
+put-then {v} {out} {at} {p} {mid} {cs} f h k =
+    let w : Written out at (encode v) mid p = put-one f (omega (arith, length-append (encode v) cs)) in
+    written-join w (k (omega (arith, length-append (encode v) cs, w .place, written-length w)))
+
+-- three fields, one behind the other
+pub put-three : {a b c : ℕ} {out x y z : List ℕ} {at p q next : ℕ} → Put a out at p x → Put b x p q y → Put c y q next z → at + length (encode a ++ (encode b ++ encode c)) ≤ length out → Written out at (encode a ++ (encode b ++ encode c)) z next
+unfolding widthOf
+put-three f g h l = put-then f l (λ m. put-then g m (λ k. put-one h k))
+
+-- where two parts have room, the first has
+pub front-room : (bs cs out : List ℕ) → length (bs ++ cs) ≤ length out → length bs ≤ length out
+front-room bs cs out h = omega (arith, length-append bs cs)
+
+-- a field behind what was written
+pub put-behind : {out : List ℕ} {bs mid : List ℕ} {p v next : ℕ} {after : List ℕ} → Written out 0 bs mid p → Put v mid p next after → length (bs ++ encode v) ≤ length out → Written out 0 (bs ++ encode v) after next
+unfolding widthOf
+put-behind {bs = bs} {v = v} w f h = written-more w f (omega (arith, w .place, length-append bs (encode v)))
 
 -- the same under other names
 pub written-as : {out : List ℕ} {at : ℕ} {bs after after′ : List ℕ} {next next′ : ℕ} → after′ ≡ after → next′ ≡ next → Written out at bs after next → Written out at bs after′ next′

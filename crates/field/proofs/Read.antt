@@ -5,19 +5,18 @@
 --     reads-whole       a whole sheet
 use mathlib.Core.Path.{_≡_, refl, sym, ap, _∙_}
 use mathlib.Core.Bool.{Bool, true}
-use mathlib.Core.List.{List, [], _∷_, _++_, append-assoc, append-nil}
+use mathlib.Core.List.{List, [], _++_, append-assoc, append-nil}
 use Prim.Native.Nat.{ℕ, _+_, _^_, _≤_, _<_}
 use native.Mathlib.Omega.{arith}
-use native.Mathlib.Nat.{add-assoc, add-zero, zero-add}
+use native.Mathlib.Nat.{add-zero, zero-add}
 use borrow.Author.Tests.{eq-eqb, lt-ltb, le-leb}
-use lib.Dec.{eqb, leb, ltb}
-use lib.ListN.{length, drop, length-append}
+use lib.ListN.{length, length-append}
 use lib.Seq.{drop-append-seam}
-use Rattle.number.specs.Decode.{decode, value}
+use Rattle.number.specs.Decode.{decode}
 use Rattle.number.specs.Encode.{encode, widthOf}
 use Rattle.number.proofs.Choice.{pick-true}
 use Rattle.number.proofs.RoundTrip.{decode-encode}
-use Rattle.field.specs.Sheet.{Out, got, Parser, _>>=_, _>>_, pure, require}
+use Rattle.field.specs.Sheet.{got, Parser, _>>=_, _>>_, pure, require}
 use Rattle.field.specs.Field.{taken, number, exactly, tenancy, inside, rising, end, whole}
 use Rattle.field.proofs.Sheet.{next, then}
 use Rattle.field.proofs.Readers.{end-here}

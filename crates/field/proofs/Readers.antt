@@ -1,18 +1,15 @@
 -- Laws of the readers of a field: their answer in each case.
-use mathlib.Core.Path.{_≡_, refl, sym, ap, _∙_}
-use mathlib.Core.Bool.{Bool, true, false}
+use mathlib.Core.Path.{_≡_, sym, ap, _∙_}
 use mathlib.Core.List.{List}
-use Prim.Native.Nat.{ℕ, _+_, _-_, _≤_, _<_}
+use Prim.Native.Nat.{ℕ, _-_, _≤_, _<_}
 use native.Mathlib.Omega.{arith}
-use borrow.Author.Tests.{eq-eqb, ne-eqb, lt-ltb, le-ltb, le-leb, lt-leb, leb-true, eqb-true, ltb-true}
+use borrow.Author.Tests.{eq-eqb, ne-eqb, lt-ltb, le-ltb, le-leb, lt-leb}
 use lib.ListN.{length, take, drop, length-drop}
-use lib.Dec.{eqb, leb, ltb}
-use Rattle.number.specs.Decode.{Decoded, value, decode}
-use Rattle.number.specs.Decode.{refused as bad}
+use Rattle.number.specs.Decode.{decode}
 use Rattle.number.proofs.Part.{rest}
-use Rattle.number.proofs.Decode.{decode-none, decode-within}
+use Rattle.number.proofs.Decode.{decode-none}
 use Rattle.number.proofs.Choice.{pick-true, pick-false}
-use Rattle.field.specs.Sheet.{Out, got, refused, Parser, _>>=_, _>>_, pure, require}
+use Rattle.field.specs.Sheet.{Out, got, refused, pure}
 use Rattle.field.specs.declared.Field.{Field}
 use Rattle.field.specs.declared.Field.the-variants.{Got, Refused}
 use Rattle.field.specs.declared.Refusal.{Refusal}

@@ -4,16 +4,18 @@ use mathlib.Core.List.{List}
 use Prim.Native.Nat.{ℕ, _+_, _≤_, _<_}
 use native.Mathlib.Omega.{arith}
 use borrow.Author.Tests.{le-leb, lt-leb}
-use lib.ListN.{length}
-use Rattle.number.proofs.Choice.{pick-true, pick-false}
+use lib.Dec.{leb}
+use lib.ListN.{length, take, drop}
+use lib.Seq.{take-at}
+use Rattle.number.proofs.Choice.{pick-true, pick-false, either}
 use Rattle.field.specs.declared.Written.{Written}
 use Rattle.field.specs.declared.Written.the-variants.{Length, Refused}
 use Rattle.field.specs.declared.Refusal.{Refusal}
 use Rattle.field.specs.declared.Refusal.the-variants.{NoRoom}
-use Rattle.field.specs.Put.{Written as Wrote}
+use Rattle.field.specs.Put.{paste, Written as Wrote}
 use Rattle.field.specs.Refusal.{numberOf}
 use Rattle.field.specs.Send.{Draft, sheet, none, toldWritten, answerTo, leftBy, Sent}
-use Rattle.field.specs.Sheet.{Out, got, refused}
+use Rattle.field.specs.Sheet.{got, refused}
 use Rattle.field.proofs.Unique.{number-injective}
 
 -- there is no sheet: refused, and nothing has changed
@@ -33,6 +35,17 @@ sent-fits {bs} {out} {n} {after} w =
     let l : length bs ≤ length out = omega (arith, w .fit) in
     let e : n ≡ length bs = omega (arith, w .place) in
     record { answer = ap (got tt) e ∙ sym (pick-true _ _ (le-leb _ _ l)); held = w .held ∙ sym (pick-true _ _ (le-leb _ _ l)) }
+
+-- the buffer then begins with the sheet
+pub sent-bytes : (bs out : List ℕ) (n : ℕ) (after : List ℕ) → Sent (sheet bs) out (Length n) after → (n ≡ length bs) × (take n after ≡ bs)
+unfolding toldWritten answerTo leftBy paste
+sent-bytes bs out n after w =
+    either (leb (length bs) (length out))
+    (λ t.
+    let a : got tt n ≡ got tt (length bs) = w .answer ∙ pick-true _ _ t in
+    let k : n ≡ length bs = cc in
+    (k, ap (take n) (w .held ∙ pick-true _ _ t) ∙ take-at bs (drop (0 + length bs) out) n (sym k)))
+    (λ f. let a : got tt n ≡ refused 11 = w .answer ∙ pick-false _ _ f in absurd (let z : _≡_ {A = ℕ} 0 1 = cc in omega arith))
 
 -- two answers that say the same are the same
 pub written-injective : (a b : Written) → toldWritten a ≡ toldWritten b → a ≡ b

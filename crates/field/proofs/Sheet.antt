@@ -2,6 +2,7 @@
 --     next, then          where the first reader ends, the second goes on
 --     stops, halts        a refusal stands
 --     pass, fail          a test that holds, and one that does not
+--     then-bind           readers that are grouped otherwise
 --     bind-got, after-got, require-got     what an accepted sheet says of each reader on the way
 use mathlib.Core.Path.{_≡_, refl, sym, ap, _∙_}
 use mathlib.Core.Bool.{Bool, true, false}
@@ -37,6 +38,16 @@ module _ {B : Type 0} (e : ℕ) (q : Parser B) (s : List ℕ) (at : ℕ) where
   pub fail : {b : Bool} → b ≡ false → (require b e >> q) s at ≡ refused e
   unfolding require
   fail {b} h = halts (require b e) q s at (pick-false (got tt at) (refused e) h)
+
+module _ {A B C : Type 0} where
+  bind-out : (o : Out A) (f : A → ℕ → Out B) (g : B → ℕ → Out C) → andThen (andThen o f) g ≡ andThen o (λ a n. andThen (f a n) g)
+  unfolding andThen
+  bind-out (got a n) f g = refl
+  bind-out (refused m) f g = refl
+
+  pub then-bind : (p : Parser A) (q : Parser B) (k : B → Parser C) (s : List ℕ) (at : ℕ) → ((p >> q) >>= k) s at ≡ (p >> (q >>= k)) s at
+  unfolding _>>=_ _>>_
+  then-bind p q k s at = bind-out (p s at) _ _
 
 -- ---- what an accepted sheet says
 

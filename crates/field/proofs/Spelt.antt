@@ -3,9 +3,9 @@
 --     spelt-none, spelt-join, spelt-whole      no field, field after field, a whole sheet
 --     number-spelt, exactly-spelt, tenancy-spelt, inside-spelt, rising-spelt     one field, and what is known of its value
 use mathlib.Core.Path.{_≡_, refl, sym, ap, _∙_}
-use mathlib.Core.Bool.{Bool, true, false}
-use mathlib.Core.List.{List, [], _∷_, _++_, append-assoc, append-nil}
-use Prim.Native.Nat.{ℕ, _+_, _-_, _^_, _≤_, _<_}
+use mathlib.Core.Bool.{true}
+use mathlib.Core.List.{List, [], _++_, append-assoc, append-nil}
+use Prim.Native.Nat.{ℕ, _+_, _^_, _≤_, _<_}
 use native.Mathlib.Omega.{arith}
 use borrow.Author.Tests.{eqb-true, leb-true, ltb-true}
 use lib.Dec.{eqb, leb, ltb}
@@ -15,13 +15,10 @@ use Rattle.number.specs.Bytes.{Bytes}
 use Rattle.number.specs.Decode.{Decoded, value, decode}
 use Rattle.number.specs.Decode.{refused as bad}
 use Rattle.number.specs.Encode.{encode, widthOf}
-use Rattle.number.specs.Choice.{pick}
 use Rattle.number.proofs.Encode.{width-bounds}
 use Rattle.number.proofs.RoundTrip.{Begins, decode-exact}
-use Rattle.number.proofs.Choice.{pick-true, pick-false, either}
-use Rattle.field.specs.Sheet.{Out, got, refused, Parser, _>>=_, _>>_, pure, require}
-use Rattle.field.specs.Field.{taken, number, exactly, tenancy, inside, rising, end, whole}
-use Rattle.field.proofs.Sheet.{Step, bind-got, after-got, pure-got}
+use Rattle.field.specs.Sheet.{got}
+use Rattle.field.specs.Field.{taken, number, exactly, tenancy, inside, rising}
 use Rattle.field.proofs.Values.{one-test, two-tests}
 
 pub record Spelt (s : List ℕ) (at e : ℕ) (bs : List ℕ) : Type 0 where
@@ -94,23 +91,6 @@ module _ (s : List ℕ) (at v e : ℕ) (b : Bytes s) where
       (number-spelt s at v e b (w .0) .0, leb-true v high (w .1), leb-true floor v (w .2))
 
 -- ---- a whole sheet
-
-end-got : (s : List ℕ) (at v e : ℕ) → end s at ≡ got v e → (at ≡ length s) × (e ≡ at)
-unfolding end
-end-got s at v e h =
-    either (eqb at (length s))
-    (λ t. let g : got 0 at ≡ got v e = sym (pick-true _ _ t) ∙ h in (eqb-true _ _ t, cc))
-    (λ f. let g : refused 9 ≡ got v e = sym (pick-false _ _ f) ∙ h in absurd (let z : _≡_ {A = ℕ} 0 1 = cc in omega arith))
-
--- a sheet that is accepted ends where its fields do
-pub whole-got : {A : Type 0} (p : Parser A) (s : List ℕ) (a : A) (e : ℕ) → whole p s 0 ≡ got a e → (p s 0 ≡ got a e) × (e ≡ length s)
-unfolding whole
-whole-got p s a e h =
-    let w : Step (p s 0) (λ x n. (end >> pure x) s n) a e = bind-got p s 0 a e (λ x. end >> pure x) h in
-    let g : Step (end s (w .mid)) (λ _ n. pure (w .found) s n) a e = after-got end s (w .mid) a e (pure (w .found)) (w .last) in
-    let q : (w .mid ≡ length s) × (g .mid ≡ w .mid) = end-got s (w .mid) (g .found) (g .mid) (g .first) in
-    let r : (w .found ≡ a) × (g .mid ≡ e) = pure-got _ _ s _ _ (g .last) in
-    (w .first ∙ ap (λ x. got x (w .mid)) (r .0) ∙ ap (got a) (sym (q .1) ∙ r .1), sym (r .1) ∙ q .1 ∙ q .0)
 
 pub spelt-whole : (s : List ℕ) (e : ℕ) (bs : List ℕ) → e ≡ length s → Spelt s 0 e bs → s ≡ bs
 spelt-whole s e bs h x = x .bytes ∙ ap (λ (k : ℕ). bs ++ drop k s) h ∙ ap (λ (y : List ℕ). bs ++ y) (drop-length s) ∙ append-nil bs

@@ -2,16 +2,15 @@
 use mathlib.Core.Path.{_≡_, refl, sym, ap, _∙_}
 use mathlib.Core.List.{List}
 use Prim.Native.Nat.{ℕ}
-use native.Mathlib.Omega.{arith}
 use lib.Dec.{eqb}
 use Rattle.number.specs.Choice.{pick}
 use Rattle.field.specs.declared.Field.{Field}
 use Rattle.field.specs.declared.Field.the-variants.{Got, Refused}
 use Rattle.field.specs.declared.Refusal.{Refusal}
 use Rattle.field.specs.declared.Refusal.the-variants.{Ends, Malformed, Kind, Unit, Tenancy, Range, NoCopies, NotRising, Extra, NoSettings, NoRoom, Rented, NotAbove, NotTenant}
-use Rattle.field.specs.Put.{Put}
+use Rattle.field.specs.Put.{Put, Written}
 use Rattle.field.specs.Refusal.{numberOf}
-use Rattle.field.specs.Sheet.{Out, got, refused}
+use Rattle.field.specs.Sheet.{Out}
 use Rattle.field.specs.Told.{told}
 
 -- the refusal of a number of the paper
@@ -68,3 +67,11 @@ reader-unique o a b p q = told-injective a b (p ∙ sym q)
 -- `put`: the place and the buffer
 pub put-unique : (v : ℕ) (out : List ℕ) (at n m : ℕ) (x y : List ℕ) → Put v out at n x → Put v out at m y → (n ≡ m) × (x ≡ y)
 put-unique v out at n m x y p q = (p .place ∙ sym (q .place), p .held ∙ sym (q .held))
+
+-- `number_of`: the number
+pub number-unique : (e : Refusal) (n m : ℕ) → n ≡ numberOf e → m ≡ numberOf e → n ≡ m
+number-unique e n m p q = p ∙ sym q
+
+-- `put_opening`: the place and the buffer
+pub written-unique : (out : List ℕ) (at : ℕ) (bs : List ℕ) (n m : ℕ) (x y : List ℕ) → Written out at bs x n → Written out at bs y m → (n ≡ m) × (x ≡ y)
+written-unique out at bs n m x y p q = (p .place ∙ sym (q .place), p .held ∙ sym (q .held))

@@ -11,7 +11,7 @@ use native.Mathlib.Omega.{arith}
 use borrow.Author.Tests.{eqb-true, leb-true, ltb-true}
 use lib.Dec.{eqb, leb, ltb}
 use lib.ListN.{length, getD}
-use Rattle.field.specs.Sheet.{Out, got, Parser, _>>=_, _>>_, pure, require, times}
+use Rattle.field.specs.Sheet.{got, Parser, _>>=_, _>>_, pure, require, times}
 use Rattle.field.specs.Field.{number, tenancy, inside, rising, climb}
 use Rattle.field.specs.Lists.{All, Rises}
 use Rattle.field.proofs.Sheet.{Step, bind-got, passed, pure-got}

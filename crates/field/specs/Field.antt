@@ -5,6 +5,7 @@
 --     inside     a number within a range, or 6
 --     rising     a number up to the last of its range, or 6; not below the first that rises, or 8
 --     climb      so many numbers, each above the one before it
+--     opening    kind, unit and tenancy, with which every sheet opens: another kind is 3, another unit 4
 --     end        the end of the sheet, or 9
 --     whole      all fields of a sheet, and then its end
 use Prim.Native.Nat.{ℕ, zero, suc, _+_}
@@ -57,6 +58,12 @@ climb (suc n) floor high = do
   v ← rising floor high
   vs ← climb n (v + 1) high
   pure (v ∷ vs)
+
+unfoldable pub opening : ℕ → ℕ → ℕ → Parser ℕ
+opening kind unit t = do
+  exactly kind 3
+  exactly unit 4
+  tenancy t
 
 unfoldable pub end : Parser ℕ
 end s at = pick (eqb at (length s)) (got 0 at) (refused 9)

@@ -13,6 +13,10 @@ unfoldable pub spellAll : {A : Type 0} → (A → List ℕ) → List A → List 
 spellAll spell [] = []
 spellAll spell (a ∷ rest) = spell a ++ spellAll spell rest
 
+-- the bytes of kind, unit and tenancy, with which every sheet opens
+unfoldable pub openingBytes : ℕ → ℕ → ℕ → List ℕ
+openingBytes kind unit t = encode kind ++ (encode unit ++ encode t)
+
 -- the buffer with these bytes from a place on, all else as it was
 unfoldable pub paste : List ℕ → ℕ → List ℕ → List ℕ
 paste out at bs = take at out ++ (bs ++ drop (at + length bs) out)

@@ -2,7 +2,6 @@
 --     Draft       a sheet's bytes, or why there is none
 --     Sent        what is answered, and the buffer afterwards
 use Prim.Native.Nat.{ℕ}
-use mathlib.Core.Bool.{Bool}
 use mathlib.Core.Path.{_≡_}
 use mathlib.Core.List.{List}
 use lib.ListN.{length}

@@ -1,8 +1,10 @@
 // What every sheet is made of: the refusals, reading a field at a place, writing a field into a lent buffer.
 use number::Number;
 ghost use mathlib.Core.Path.{_≡_};
-ghost use Rattle.field.specs.Field.{number, exactly, tenancy, inside, rising, end};
-ghost use Rattle.field.specs.Put.{Put};
+ghost use Prim.Native.Nat.{_≤_};
+ghost use lib.ListN.{length};
+ghost use Rattle.field.specs.Field.{number, exactly, tenancy, inside, rising, opening, end};
+ghost use Rattle.field.specs.Put.{openingBytes, Put, Written as Wrote};
 ghost use Rattle.field.specs.Refusal.{numberOf};
 ghost use Rattle.field.specs.Told.{told};
 
@@ -48,6 +50,28 @@ pub enum Field {
 pub enum Written {
     Length(usize),
     Refused(Refusal),
+}
+
+// The paper's number of a refusal.
+pub fn number_of(e: Refusal) -> u32
+    ensures { λ r. ⌜ r ≡ numberOf e ⌝ }
+{
+    match e {
+        Refusal::Ends => 1,
+        Refusal::Malformed => 2,
+        Refusal::Kind => 3,
+        Refusal::Unit => 4,
+        Refusal::Tenancy => 5,
+        Refusal::Range => 6,
+        Refusal::NoCopies => 7,
+        Refusal::NotRising => 8,
+        Refusal::Extra => 9,
+        Refusal::NoSettings => 10,
+        Refusal::NoRoom => 11,
+        Refusal::Rented => 12,
+        Refusal::NotAbove => 13,
+        Refusal::NotTenant => 14,
+    }
 }
 
 // A number at a place.
@@ -133,6 +157,19 @@ pub fn risen(s: &[u8], at: usize, floor: u32, high: u32) -> Field
     }
 }
 
+// Kind, unit and tenancy, with which every sheet opens.
+pub fn opening(s: &[u8], kind: u32, unit: u32, tenancy: u32) -> Field
+    ensures { λ r. ⌜ told r ≡ opening kind unit tenancy (now (s .entry)) 0 ⌝ }
+{
+    match exact(s, 0, kind, Refusal::Kind) {
+        Field::Got(_, at) => match exact(s, at, unit, Refusal::Unit) {
+            Field::Got(_, next) => tenant(s, next, tenancy),
+            Field::Refused(e) => Field::Refused(e),
+        },
+        Field::Refused(e) => Field::Refused(e),
+    }
+}
+
 // The end of the sheet.
 pub fn finish(s: &[u8], at: usize) -> Field
     ensures { λ r. ⌜ told r ≡ end (now (s .entry)) at ⌝ }
@@ -152,4 +189,14 @@ pub fn put(v: u32, out: &mut [u8], at: usize) -> usize
         return at;
     }
     at + number::write(v, &mut out[at..])
+}
+
+// Puts kind, unit and tenancy at the start of a buffer that has room for them, and answers the place after them.
+pub fn put_opening(kind: u32, unit: u32, tenancy: u32, out: &mut [u8]) -> usize
+    requires { ⌜ length (openingBytes kind unit tenancy) ≤ length (now out) ⌝ }
+    ensures { λ r. ⌜ Wrote (now (out .entry)) 0 (openingBytes kind unit tenancy) (now (out .exit)) r ⌝ }
+{
+    let a = put(kind, out, 0);
+    let b = put(unit, out, a);
+    put(tenancy, out, b)
 }

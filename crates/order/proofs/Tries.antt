@@ -112,10 +112,10 @@ module _ (n q k lower : ℕ) (cut caps at loads : List ℕ) (t : Trying n q k lo
           };
         }
 
-    pub went : (at′ loads′ : List ℕ) → More n q (set cut k lower) caps loads₁ at′ loads′
+    pub went : (d : ℕ) (at′ loads′ : List ℕ) → More n q (set cut k lower) caps loads₁ at′ loads′ d
         → Went n q k lower cut caps (set (set cut k lower) k (getD cut k 0)) at′ loads′
     unfolding Valid
-    went at′ loads′ r =
+    went d at′ loads′ r =
         let none : getD loads′ n 0 ≡ 0 = omega (arith, r .fewer, m .more, u .whole) in
         let v = all-placed n q (set cut k lower) at′ loads′ (r .placed) none in
         record {

@@ -1,7 +1,7 @@
 // The first schedule in dictionary order, from any schedule.
 ghost use mathlib.Core.Path.{_≡_};
-ghost use Prim.Native.Nat.{ℕ, _+_, _-_, _<_, _≤_};
-ghost use lib.ListN.{length, getD};
+ghost use Prim.Native.Nat.{_<_, _≤_};
+ghost use lib.ListN.{length};
 ghost use Rattle.order.specs.Sorting.{Bound, Sorting};
 ghost use Rattle.order.specs.Turn.{Trying, Tried, Spread, Lowered, Done, Ordered};
 use places::Hit;
@@ -23,7 +23,8 @@ fn try_lower(
     let whole = cut[k];
     cut[k] = lower;
     let o = places::shift(k, n, at, loads);
-    let hit = places::improve(n, q, k, k, cut, caps, at, loads);
+    let room = places::open(n, caps, loads);
+    let hit = places::improve(n, q, k, k, cut, caps, room, at, loads);
     cut[k] = whole;
     match hit {
         Hit::Free(d) => Hit::Free(d),

@@ -7,11 +7,9 @@ use lib.Dec.{eqb, ltb}
 use borrow.Author.Tests.{ltb-true, ltb-false, lt-ltb, le-ltb, eqb-true, eqb-false, not-true}
 use Rattle.mask.specs.Has.{has}
 use Rattle.mask.specs.Member.{Added}
-use Rattle.mask.specs.Lowest.{Lowest}
 use Rattle.mask.proofs.Has.{has-zero, mask-some}
-use Rattle.mask.proofs.Walk.{lowest-some}
 use Rattle.model.proofs.Bool.{by-cases, differ, and-left, and-right, and-both, same-test}
-use Rattle.places.specs.Search.{Inside, Linked, Brings, Chosen}
+use Rattle.places.specs.Search.{Inside, Linked, Brings}
 
 -- ---- a mask that is made disk by disk
 
@@ -79,19 +77,3 @@ pub brings-by : (n m s x w : ℕ) (r : Bool) → w < 2 ^ 64 → ((e : ℕ) → h
     → (r ≡ true → Linked n s x) → (r ≡ false → Linked n s x → ⊥) → Brings n m s x r
 brings-by n m s x w r l f z g h =
     record { yes = λ t. (g t, some-new m x w l f z); no = λ t k. absurd (h t k) }
-
--- ---- a disk of a mask
-
-pub chosen : (m r : ℕ) → m < 2 ^ 64 → (d : ℕ) → has m d ≡ true → Lowest m r → Chosen m r
-chosen m r l d t k =
-    let p : 0 < m = by-cases (eqb m 0) (λ s. absurd (differ t (ap (λ (y : ℕ). has y d) (eqb-true m 0 s) ∙ has-zero d)))
-    (λ s. let n = eqb-false m 0 s in omega arith) in
-    let h : r < 64 = lowest-some m r l p k in
-    record { disk = h; member = k .found h }
-
-pub chosen-both : (m room free r : ℕ) → free < 2 ^ 64 → ((e : ℕ) → has free e ≡ (has m e && has room e)) → (free ≡ 0 → ⊥)
-    → Lowest free r → Chosen m r
-chosen-both m room free r l f n k =
-    let s = mask-some 64 free l (omega arith) in
-    let c = chosen free r l (s .0) (s .2) k in
-    record { disk = c .disk; member = and-left (has m r) (has room r) (sym (f r) ∙ c .member) }

@@ -1,28 +1,29 @@
 -- What the callers of the search cite.
 --     improved-free, improved-short     the two outcomes of the search, for places and loads
+--     open-but, reopen-full, reopen-roomy     the disks that have room, after one more block
 --     Eased                             blocks come off overfull disks, one by one
 --     placed-none                       no block on any disk
 use Prim.Native.Nat.{ℕ, _+_, _≤_, _<_}
 use mathlib.Core.Path.{_≡_, refl, sym, ap, subst, _∙_}
-use mathlib.Core.Bool.{Bool, true, false, _&&_}
+use mathlib.Core.Bool.{Bool, true, false, not, _&&_}
 use mathlib.Core.List.{List}
 use native.Mathlib.Omega.{arith}
 use lib.Dec.{eqb, ltb}
 use lib.ListN.{getD, set, length, length-set}
 use lib.Seq.{getD-set-same, getD-set-other}
-use borrow.Author.Tests.{ltb-true, ltb-false, lt-ltb, eqb-true, eqb-false, eq-eqb, ne-eqb}
+use borrow.Author.Tests.{ltb-true, ltb-false, lt-ltb, le-ltb, eqb-true, eqb-false, eq-eqb, ne-eqb}
 use Rattle.mask.specs.Has.{has}
 use Rattle.model.specs.Assignment.{reads, Partial, Within}
-use Rattle.model.proofs.Bool.{by-cases, differ, and-left, and-right, bit-true, bit-false}
+use Rattle.model.proofs.Bool.{by-cases, differ, and-left, and-right, and-both, bit-true, bit-false}
 use Rattle.model.proofs.Sum.{count-none, count-all, count-some}
 use Rattle.places.specs.Places.{entry, roomy, Placed, Moved, Empty}
-use Rattle.places.specs.Search.{Open, Stuck, Pulled}
+use Rattle.places.specs.Search.{Open, OpenBut, Stuck, Pulled}
 use Rattle.places.specs.Outcome.{Ready, More, Blocked, Filled}
 use Rattle.places.proofs.Laws.{placed-move}
 
 pub improved-free : (n q d room : ℕ) (masks caps at loads at′ loads′ : List ℕ) → Placed n q masks at loads
     → Within n q (entry caps) (entry at) → Open n caps loads room → has room d ≡ true → Pulled n q d masks loads at′ loads′
-    → More n q masks caps loads at′ loads′
+    → More n q masks caps loads at′ loads′ d
 unfolding Within
 improved-free n q d room masks caps at loads at′ loads′ p w o t u =
     let both : (ltb d n && roomy caps loads d) ≡ true = sym (o d) ∙ t in
@@ -45,6 +46,14 @@ improved-free n q d room masks caps at loads at′ loads′ p w o t u =
         bit-true (eqb n n) (eq-eqb n n refl),
         bit-false (eqb n d) (ne-eqb n d (omega arith)),
       ));
+      disk = l;
+      room = r;
+      same = λ e h z. omega (
+        arith,
+        u .shifted e (omega arith),
+        bit-false (eqb e n) (ne-eqb e n (omega arith)),
+        bit-false (eqb e d) (ne-eqb e d z),
+      );
     }
 
 pub improved-short : (n q x room : ℕ) (masks caps at loads : List ℕ) → Open n caps loads room
@@ -61,15 +70,47 @@ improved-short n q x room masks caps at loads o s =
     not-true-here true b e f = f
     not-true-here false b e f = absurd (differ e refl)
 
-pub ready-more : (n q p p′ : ℕ) (masks caps at loads at′ loads′ : List ℕ) → Ready n q 0 p masks caps at loads → p′ ≤ q
-    → More n q masks caps loads at′ loads′ → Ready n q 0 p′ masks caps at′ loads′
-ready-more n q p p′ masks caps at loads at′ loads′ r h m =
+pub ready-more : (n q p p′ d : ℕ) (masks caps at loads at′ loads′ : List ℕ) → Ready n q 0 p masks caps at loads → p′ ≤ q
+    → More n q masks caps loads at′ loads′ d → Ready n q 0 p′ masks caps at′ loads′
+ready-more n q p p′ d masks caps at loads at′ loads′ r h m =
     record {
       begins = h;
       placed = m .placed;
       within = m .within;
       kept = record { begins = omega arith; small = r .kept .small; bound = λ b l. let z : ⊥ = omega arith in absurd z };
     }
+
+-- ---- the disks that have room, after one more block
+
+-- the room of another disk is what it was
+pub open-but : (n q d room : ℕ) (masks caps loads at′ loads′ : List ℕ) → Open n caps loads room
+    → More n q masks caps loads at′ loads′ d → OpenBut n d caps loads′ room
+open-but n q d room masks caps loads at′ loads′ o m =
+    record {
+      disk = m .disk;
+      here = o d ∙ and-both (ltb d n) (roomy caps loads d) (lt-ltb d n (m .disk)) (lt-ltb _ _ (m .room));
+      others = λ e z. o e ∙ by-cases (ltb e n)
+          (λ t. ap (λ (y : ℕ). ltb e n && ltb y (getD caps e 0)) (sym (m .same e (ltb-true e n t) z)))
+          (λ t. ap (λ (y : Bool). y && roomy caps loads e) t ∙ sym (ap (λ (y : Bool). y && roomy caps loads′ e) t));
+    }
+
+module _ (n d room : ℕ) (caps loads : List ℕ) (o : OpenBut n d caps loads room) where
+  pub reopen-full : (r : ℕ) → ((e : ℕ) → has r e ≡ (not (eqb e d) && has room e)) → getD caps d 0 ≤ getD loads d 0
+      → Open n caps loads r
+  reopen-full r f h e =
+      f e ∙ by-cases (eqb e d)
+      (λ t. ap (λ (y : Bool). not y && has room e) t
+      ∙ sym (ap (λ (y : ℕ). ltb y n && roomy caps loads y) (eqb-true e d t)
+      ∙ ap (λ (y : Bool). y && roomy caps loads d) (lt-ltb d n (o .disk)) ∙ le-ltb _ _ h))
+      (λ t. ap (λ (y : Bool). not y && has room e) t ∙ o .others e (eqb-false e d t))
+
+  pub reopen-roomy : getD loads d 0 < getD caps d 0 → Open n caps loads room
+  reopen-roomy h e =
+      by-cases (eqb e d)
+      (λ t. ap (has room) (eqb-true e d t) ∙ o .here
+      ∙ sym (ap (λ (y : ℕ). ltb y n && roomy caps loads y) (eqb-true e d t)
+      ∙ and-both (ltb d n) (roomy caps loads d) (lt-ltb d n (o .disk)) (lt-ltb _ _ h)))
+      (λ t. o .others e (eqb-false e d t))
 
 pub filled : (n q from first x : ℕ) (masks caps at loads at′ loads′ : List ℕ) → Ready n q from first masks caps at loads
     → Blocked n q masks caps at loads at′ loads′ x → Filled n q masks caps at′ loads′ x

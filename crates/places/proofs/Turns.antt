@@ -1,6 +1,6 @@
 -- The search, turn by turn.
 --     Seeks         what holds whenever a turn begins
---     seeks-start, seeks-wrap, seeks-mark     it holds at first, after a pass over the blocks, and with one disk more
+--     seeks-start, seeks-wrap, seeks-mark     it holds at first, after a pass over the blocks, and with the disks that a block brings
 --     seeks-way     a disk with room has a labelled way
 --     seeks-stuck   a quiet pass leaves the reached disks closed
 use Prim.Native.Nat.{ℕ, _+_, _-_, _*_, _≤_, _<_, _^_}
@@ -10,19 +10,17 @@ use mathlib.Core.Bool.{Bool, true, false, not, _&&_, _||_}
 use mathlib.Core.List.{List}
 use native.Mathlib.Omega.{arith}
 use lib.Dec.{eqb, ltb}
-use lib.ListN.{getD, set, length, length-set}
-use lib.Seq.{getD-set-same, getD-set-other}
-use borrow.Author.Tests.{ltb-true, ltb-false, eqb-true, eqb-false, eq-eqb, not-true}
+use lib.ListN.{getD, length}
+use borrow.Author.Tests.{ltb-true, ltb-false, eqb-true, eq-eqb, not-true}
 use Rattle.mask.specs.Has.{has}
-use Rattle.mask.specs.Member.{Added}
 use Rattle.mask.proofs.Has.{has-zero, has-lt}
 use Rattle.model.specs.Count.{bit}
 use Rattle.model.specs.Shortfall.{touches}
 use Rattle.model.specs.Closed.{Closed}
-use Rattle.model.proofs.Bool.{by-cases, differ, and-left, and-right, and-both, or-left, or-right}
+use Rattle.model.proofs.Bool.{by-cases, differ, and-left, and-right, and-both, or-elim, or-left, or-right, not-here}
 use Rattle.model.proofs.Sum.{any-here}
 use Rattle.places.specs.Places.{entry, holds, Kept}
-use Rattle.places.specs.Search.{Linked, Settled, Scanned, Chosen, Label, Tree, Way, Stuck}
+use Rattle.places.specs.Search.{Linked, Settled, Scanned, Labelled, Label, Tree, Way, Stuck}
 use Rattle.places.specs.Outcome.{Seeking}
 
 pub record Seeks (n q : ℕ) (masks at : List ℕ) (room : ℕ) (by stamp : List ℕ) (x : ℕ) (again : Bool) (b : ℕ) : Type 0 where
@@ -91,54 +89,43 @@ module _ (n q : ℕ) (masks at : List ℕ) (room : ℕ) where
             (⊎-elim (λ e. let z : ⊥ = omega (arith, p .0, e) in absurd z) (λ t′. t′) l);
       }
 
-  module _ (from b r d x w : ℕ) (by stamp : List ℕ) (again : Bool) (k : Kept n q from masks at)
+  module _ (from b r x w : ℕ) (by stamp by′ stamp′ : List ℕ) (again : Bool) (k : Kept n q from masks at)
       (s : Seeks n q masks at room by stamp x again b) (h : r < q) (l : Linked n (getD at r 0) x)
-      (f : (e : ℕ) → has w e ≡ (has (getD masks r 0) e && not (has x e))) (ch : Chosen w d) where
-    copy : holds masks r d ≡ true
-    copy = and-left (holds masks r d) (not (has x d)) (sym (f d) ∙ ch .member)
+      (f : (e : ℕ) → has w e ≡ (has (getD masks r 0) e && not (has x e))) where
+    copy : (d : ℕ) → has w d ≡ true → holds masks r d ≡ true
+    copy d t = and-left (holds masks r d) (not (has x d)) (sym (f d) ∙ t)
 
-    pub fresh : has x d ≡ false
-    fresh = not-true (has x d) (and-right (holds masks r d) (not (has x d)) (sym (f d) ∙ ch .member))
+    fresh : (d : ℕ) → has w d ≡ true → has x d ≡ false
+    fresh d t = not-true (has x d) (and-right (holds masks r d) (not (has x d)) (sym (f d) ∙ t))
 
-    apart : (e : ℕ) → has x e ≡ true → e ≡ d → ⊥
-    apart e t p = differ t (ap (has x) p ∙ fresh)
+    module _ (M : ℕ → Bool) (part : (d : ℕ) → M d ≡ true → has w d ≡ true) (g : Labelled r x M by stamp by′ stamp′) where
+      keep : (y : ℕ) → has x y ≡ true → getD stamp′ y 0 ≡ getD stamp y 0
+      keep y u = g .same-mark y (not-here (M y) (λ v. differ u (fresh y (part y v))))
 
-    tree-more : (X : ℕ → Bool) → ((e : ℕ) → X e ≡ (eqb e d || has x e)) → Tree n q masks at (set by d r) (set stamp d x) X
-    tree-more X g e t =
-        let old : (y : ℕ) → has x y ≡ true → X y ≡ true = λ y u. g y ∙ or-right (eqb y d) (has x y) u in
-        let keep : (y : ℕ) → has x y ≡ true → getD (set stamp d x) y 0 ≡ getD stamp y 0 =
-        λ y u. getD-set-other stamp d y x 0 (apart y u) in
-        let now : getD (set stamp d x) d 0 ≡ x = getD-set-same stamp d x 0 (omega (arith, ch .disk, s .stamps)) in
-        by-cases (eqb e d)
-        (λ p. subst (Label n q masks at (set by d r) (set stamp d x) X) (sym (eqb-true e d p))
-        (label-of n q masks at (set by d r) (set stamp d x) X d r
-        (getD-set-same by d r 0 (omega (arith, ch .disk, s .labels)))
-        (k .small r d h copy) h copy
-        (⊎-elim inl (λ u. inr (
-          old (getD at r 0) u,
-          omega (arith, keep (getD at r 0) u, now, s .sooner (getD at r 0) u),
-        )) l)))
-        (λ p. let u : has x e ≡ true = ⊎-elim (λ v. absurd (differ v p)) (λ v. v) (or-split (eqb e d) (has x e) (sym (g e) ∙ t)) in
-        let a = s .tree e u in
-        let c : ℕ = getD by e 0 in
-        label-of n q masks at (set by d r) (set stamp d x) X e c
-        (getD-set-other by d e r 0 (eqb-false e d p))
-        (a .disk) (a .block) (a .copy)
-        (⊎-elim inl (λ v. inr (
-          old (getD at c 0) (v .0),
-          omega (arith, keep (getD at c 0) (v .0), keep e u, v .1),
-        )) (a .parent)))
-      where
-        or-split : (y z : Bool) → (y || z) ≡ true → (y ≡ true) ⊎ (z ≡ true)
-        or-split true z v = inl refl
-        or-split false z v = inr v
+      tree-more : (X : ℕ → Bool) → ((e : ℕ) → X e ≡ (has x e || M e)) → Tree n q masks at by′ stamp′ X
+      tree-more X j e t =
+          let old : (y : ℕ) → has x y ≡ true → X y ≡ true = λ y u. j y ∙ or-left (has x y) (M y) u in
+          by-cases (M e)
+          (λ p. label-of n q masks at by′ stamp′ X e r (g .block e p) (k .small r e h (copy e (part e p))) h (copy e (part e p))
+          (⊎-elim inl (λ u. inr (
+            old (getD at r 0) u,
+            omega (arith, keep (getD at r 0) u, g .mark e p, s .sooner (getD at r 0) u),
+          )) l))
+          (λ p. let u : has x e ≡ true = ⊎-elim (λ v. v) (λ v. absurd (differ v p)) (or-elim (has x e) (M e) (sym (j e) ∙ t)) in
+          let a = s .tree e u in
+          let c : ℕ = getD by e 0 in
+          label-of n q masks at by′ stamp′ X e c (g .same-block e p) (a .disk) (a .block) (a .copy)
+          (⊎-elim inl (λ v. inr (
+            old (getD at c 0) (v .0),
+            omega (arith, keep (getD at c 0) (v .0), keep e u, v .1),
+          )) (a .parent)))
 
-    pub seeks-way : Way n q masks at (set by d r) (set stamp d x) d
-    seeks-way =
+    pub seeks-way : (d : ℕ) → has w d ≡ true → Labelled r x (λ e. eqb e d) by stamp by′ stamp′ → Way n q masks at by′ stamp′ d
+    seeks-way d t g =
         record {
-          X = λ e. eqb e d || has x e;
-          tree = tree-more (λ e. eqb e d || has x e) (λ e. refl);
-          here = or-left (eqb d d) (has x d) (eq-eqb d d refl);
+          X = λ e. has x e || eqb e d;
+          tree = tree-more (λ e. eqb e d) (λ e u. ap (has w) (eqb-true e d u) ∙ t) g (λ e. has x e || eqb e d) (λ e. refl);
+          here = or-right (has x d) (eqb d d) (eq-eqb d d refl);
         }
 
     member : (capacities : ℕ → ℕ) (S : ℕ → Bool) → Closed n q (holds masks) capacities (entry at) S → S r ≡ true
@@ -148,36 +135,33 @@ module _ (n q : ℕ) (masks at : List ℕ) (room : ℕ) where
         (λ u. cl .owns r h (s .tree (getD at r 0) u .disk) (s .least cs S cl (getD at r 0) u))
         l
 
-    module _ (x′ : ℕ) (a : Added x d x′) (o : has room d ≡ false) (v : x′ < 2 ^ 64) where
-      more : (e : ℕ) → has x′ e ≡ (eqb e d || has x e)
-      more e = a .holds (ch .disk) e
-
+    module _ (x′ : ℕ) (a : (e : ℕ) → has x′ e ≡ (has x e || has w e)) (v : x′ < 2 ^ 64)
+        (some : (d : ℕ) × (holds masks r d ≡ true) × (has x d ≡ false)) where
       pub grows : x < x′
       grows =
-          has-lt 64 x x′ d (s .fits) (λ e _ t. more e ∙ or-right (eqb e d) (has x e) t) fresh
-          (more d ∙ or-left (eqb d d) (has x d) (eq-eqb d d refl))
+          has-lt 64 x x′ (some .0) (s .fits) (λ e _ t. a e ∙ or-left (has x e) (has w e) t) (some .2)
+          (a (some .0) ∙ or-right (has x (some .0)) (has w (some .0)) (f (some .0) ∙ and-both _ _ (some .1) (ap not (some .2))))
 
-      split : (C : ℕ → Type 0) → C d → ((e : ℕ) → has x e ≡ true → C e) → (e : ℕ) → has x′ e ≡ true → C e
-      split C here there e t =
-          by-cases (eqb e d)
-          (λ p. subst C (sym (eqb-true e d p)) here)
-          (λ p. there e (sym (ap (λ (y : Bool). y || has x e) p) ∙ sym (more e) ∙ t))
+      split : (C : ℕ → Type 0) → ((e : ℕ) → has w e ≡ true → C e) → ((e : ℕ) → has x e ≡ true → C e)
+          → (e : ℕ) → has x′ e ≡ true → C e
+      split C here there e t = ⊎-elim (there e) (here e) (or-elim (has x e) (has w e) (sym (a e) ∙ t))
 
-      pub seeks-mark : Seeks n q masks at room (set by d r) (set stamp d x) x′ true r
+      pub seeks-mark : ((d : ℕ) → has w d ≡ true → has room d ≡ false) → Labelled r x (has w) by stamp by′ stamp′
+          → Seeks n q masks at room by′ stamp′ x′ true r
       unfolding touches
-      seeks-mark =
+      seeks-mark o g =
           record {
             place = omega (arith, h);
-            labels = length-set by d r ∙ s .labels;
-            stamps = length-set stamp d x ∙ s .stamps;
+            labels = g .labels ∙ s .labels;
+            stamps = g .stamps ∙ s .stamps;
             fits = v;
-            tree = tree-more (has x′) more;
-            sooner = split (λ e. getD (set stamp d x) e 0 < x′)
-                (omega (arith, grows, getD-set-same stamp d x 0 (omega (arith, ch .disk, s .stamps))))
-                (λ e t. omega (arith, grows, s .sooner e t, getD-set-other stamp d e x 0 (apart e t)));
+            tree = tree-more (has w) (λ e t. t) g (has x′) a;
+            sooner = split (λ e. getD stamp′ e 0 < x′)
+                (λ e t. omega (arith, grows, g .mark e t))
+                (λ e t. omega (arith, grows, s .sooner e t, keep (has w) (λ e t. t) g e t));
             full = split (λ e. has room e ≡ false) o (s .full);
             least = λ cs S cl. split (λ e. touches q (holds masks) S e ≡ true)
-                (any-here q (λ i. S i && holds masks i d) r h (and-both (S r) (holds masks r d) (member cs S cl) copy))
+                (λ e t. any-here q (λ i. S i && holds masks i e) r h (and-both (S r) (holds masks r e) (member cs S cl) (copy e t)))
                 (s .least cs S cl);
             quiet = λ t. absurd (differ refl t);
           }

@@ -36,11 +36,14 @@ pub record Ready (n q from first : ℕ) (masks caps at loads : List ℕ) : Type 
   pub within : Within n q (entry caps) (entry at)
   pub kept : Kept n q from masks at
 
--- one block less is on no disk
-pub record More (n q : ℕ) (masks caps loads at′ loads′ : List ℕ) : Type 0 where
+-- one block less is on no disk, and disk d, which had room, has one more; the other disks read as many as before
+pub record More (n q : ℕ) (masks caps loads at′ loads′ : List ℕ) (d : ℕ) : Type 0 where
   pub placed : Placed n q masks at′ loads′
   pub within : Within n q (entry caps) (entry at′)
   pub fewer : getD loads n 0 ≡ getD loads′ n 0 + 1
+  pub disk : d < n
+  pub room : getD loads d 0 < getD caps d 0
+  pub same : (e : ℕ) → e < n → (e ≡ d → ⊥) → getD loads′ e 0 ≡ getD loads e 0
 
 -- nothing has changed, and there is no way
 pub record Blocked (n q : ℕ) (masks caps at loads at′ loads′ : List ℕ) (x : ℕ) : Type 0 where
@@ -50,7 +53,7 @@ pub record Blocked (n q : ℕ) (masks caps at loads at′ loads′ : List ℕ) (
 
 -- one block more on a disk, or the reached disks where there is no way
 unfoldable pub Improved : ℕ → ℕ → List ℕ → List ℕ → List ℕ → List ℕ → List ℕ → List ℕ → Hit → Type 0
-Improved n q masks caps at loads at′ loads′ (Free d) = More n q masks caps loads at′ loads′
+Improved n q masks caps at loads at′ loads′ (Free d) = More n q masks caps loads at′ loads′ d
 Improved n q masks caps at loads at′ loads′ (Short x) = Blocked n q masks caps at loads at′ loads′ x
 
 -- as many blocks as there is room for are on disks, and x is what the rest reach

@@ -1,8 +1,9 @@
 -- The search over disks and displaced blocks.
---     Open             the disks that have room
+--     Open, OpenBut    the disks that have room; the same but for one disk
 --     Inside           every disk of one mask is in another
 --     Linked, Settled  a block that belongs to the search; one that brings it no new disk
---     Brings, Chosen, Scanned   what the leaves of the search answer
+--     Brings, Scanned  what the leaves of the search answer
+--     Labelled, Reached   disks that a block labels: some; one that has room, or all
 --     Label, Tree      how a disk was reached: by a block that is on none, or on a disk reached sooner
 --     Way, Stuck       the two outcomes: a labelled way to a disk, or reached disks that are full and closed
 --     Pulled           what the way back along the labels leaves
@@ -11,7 +12,7 @@ use mathlib.Core.Path.{_≡_}
 use mathlib.Core.Logic.{_⊎_}
 use mathlib.Core.Bool.{Bool, true, false, _&&_}
 use mathlib.Core.List.{List}
-use lib.ListN.{getD}
+use lib.ListN.{getD, length}
 use lib.Dec.{ltb, eqb}
 use Rattle.mask.specs.Has.{has}
 use Rattle.model.specs.Count.{bit}
@@ -22,6 +23,12 @@ use Rattle.places.specs.Places.{entry, holds, roomy, Placed}
 -- the disks below n that have room
 abbrev pub Open : ℕ → List ℕ → List ℕ → ℕ → Type 0
 Open n caps loads m = (d : ℕ) → has m d ≡ (ltb d n && roomy caps loads d)
+
+-- m has the disks below n that have room, and disk d, whether that has room or not
+pub record OpenBut (n d : ℕ) (caps loads : List ℕ) (m : ℕ) : Type 0 where
+  pub disk : d < n
+  pub here : has m d ≡ true
+  pub others : (e : ℕ) → (e ≡ d → ⊥) → has m e ≡ (ltb e n && roomy caps loads e)
 
 -- every disk of m is in x
 abbrev pub Inside : ℕ → ℕ → Type 0
@@ -40,17 +47,26 @@ pub record Brings (n copies seat reached : ℕ) (r : Bool) : Type 0 where
   pub yes : r ≡ true → Linked n seat reached × ((d : ℕ) × (has copies d ≡ true) × (has reached d ≡ false))
   pub no : r ≡ false → Linked n seat reached → Inside copies reached
 
--- a disk of m
-pub record Chosen (m r : ℕ) : Type 0 where
-  pub disk : r < 64
-  pub member : has m r ≡ true
-
 -- the first block from b on that brings a new disk, or q
 pub record Scanned (n q b : ℕ) (masks at : List ℕ) (reached r : ℕ) : Type 0 where
   pub later : b ≤ r
   pub within : r ≤ q
   pub quiet : (i : ℕ) → b ≤ i → i < r → Settled n masks at reached i
   pub found : r < q → Linked n (getD at r 0) reached × ((d : ℕ) × (holds masks r d ≡ true) × (has reached d ≡ false))
+
+-- the disks of M now have block b as their label and x as their stamp; those of the others are as they were
+pub record Labelled (b x : ℕ) (M : ℕ → Bool) (by stamp by′ stamp′ : List ℕ) : Type 0 where
+  pub labels : length by′ ≡ length by
+  pub stamps : length stamp′ ≡ length stamp
+  pub block : (d : ℕ) → M d ≡ true → getD by′ d 0 ≡ b
+  pub mark : (d : ℕ) → M d ≡ true → getD stamp′ d 0 ≡ x
+  pub same-block : (d : ℕ) → M d ≡ false → getD by′ d 0 ≡ getD by d 0
+  pub same-mark : (d : ℕ) → M d ≡ false → getD stamp′ d 0 ≡ getD stamp d 0
+
+-- disk r of m has room and is labelled; or no disk of m has room, and all are labelled
+pub record Reached (b x m room : ℕ) (by stamp by′ stamp′ : List ℕ) (r : ℕ) : Type 0 where
+  pub free : r < 64 → (has m r ≡ true) × (has room r ≡ true) × Labelled b x (λ e. eqb e r) by stamp by′ stamp′
+  pub full : 64 ≤ r → ((d : ℕ) → has m d ≡ true → has room d ≡ false) × Labelled b x (has m) by stamp by′ stamp′
 
 -- disk d was reached by a copy of a block that is on no disk, or on one that was reached sooner
 pub record Label (n q : ℕ) (masks at by stamp : List ℕ) (X : ℕ → Bool) (d : ℕ) : Type 0 where

@@ -1,13 +1,12 @@
 // Places of blocks on disks, and the search that finds room for one more.
 // at[b] is the disk of block b, or n for none; loads[d] counts the blocks at d, n included.
 ghost use mathlib.Core.Path.{_≡_};
-ghost use mathlib.Core.Bool.{true};
-ghost use Prim.Native.Nat.{ℕ, _+_, _<_, _≤_};
+ghost use Prim.Native.Nat.{ℕ, _<_, _≤_};
 ghost use lib.ListN.{length, getD};
 ghost use Rattle.mask.specs.Has.{has};
 ghost use Rattle.model.specs.Assignment.{Within};
 ghost use Rattle.places.specs.Places.{entry, Placed, Movable, Moved, Empty, Cleared};
-ghost use Rattle.places.specs.Search.{Open, Brings, Chosen, Scanned, Way, Pulled};
+ghost use Rattle.places.specs.Search.{Open, OpenBut, Brings, Scanned, Labelled, Reached, Way, Pulled};
 ghost use Rattle.places.specs.Outcome.{Seeking, Sought, Ready, Improved, Filled};
 
 // What the search yields: a disk that has room, or the reached disks, all full.
@@ -29,7 +28,7 @@ pub fn shift(b: usize, d: usize, at: &mut [u8; 1024], loads: &mut [u32; 65]) -> 
 }
 
 // The disks that have room.
-fn open(n: usize, caps: &[u32; 64], loads: &[u32; 65]) -> u64
+pub fn open(n: usize, caps: &[u32; 64], loads: &[u32; 65]) -> u64
     requires { ⌜ n ≤ 64 ⌝ }
     ensures { λ r. ⌜ Open n (now (caps .entry)) (now (loads .entry)) r ⌝ }
 {
@@ -42,6 +41,18 @@ fn open(n: usize, caps: &[u32; 64], loads: &[u32; 65]) -> u64
         d += 1;
     }
     m
+}
+
+// The disks that have room, now that disk d has one block more.
+fn reopen(n: usize, d: usize, caps: &[u32; 64], loads: &[u32; 65], room: u64) -> u64
+    requires { ⌜ (n ≤ 64) × (OpenBut n d (now caps) (now loads) room) ⌝ }
+    ensures { λ r. ⌜ Open n (now (caps .entry)) (now (loads .entry)) r ⌝ }
+{
+    if caps[d] <= loads[d] {
+        mask::clear(room, d)
+    } else {
+        room
+    }
 }
 
 // Whether a block brings a disk to the search: it has a copy that is not reached, and is on no disk or on a reached one.
@@ -58,19 +69,6 @@ fn brings(n: usize, copies: u64, seat: usize, reached: u64) -> bool
     (reached >> seat) & 1 != 0
 }
 
-// One disk of m, with room if there is such a one.
-fn choose(m: u64, room: u64) -> usize
-    requires { ⌜ ((d : ℕ) × (has m d ≡ true)) ⌝ }
-    ensures { λ r. ⌜ Chosen m r ⌝ }
-{
-    let free = mask::both(m, room);
-    if free == 0 {
-        mask::lowest(m)
-    } else {
-        mask::lowest(free)
-    }
-}
-
 // The first block from b on that brings a disk that is not reached, or q.
 fn scan(n: usize, q: usize, b: usize, masks: &[u64; 1024], at: &[u8; 1024], reached: u64) -> usize
     requires { ⌜ (n ≤ 64) × (b ≤ q) × (q ≤ 1024) × ((i : ℕ) → i < q → getD (now at) i 0 ≤ n) ⌝ }
@@ -84,6 +82,42 @@ fn scan(n: usize, q: usize, b: usize, masks: &[u64; 1024], at: &[u8; 1024], reac
         i += 1;
     }
     i
+}
+
+// Each disk of m gets block b as its label, and what was reached before as its stamp.
+fn mark(b: usize, m: u64, reached: u64, by: &mut [u16; 64], stamp: &mut [u64; 64])
+    requires { ⌜ (b < 1024) × (length (now by) ≡ 64) × (length (now stamp) ≡ 64) ⌝ }
+    ensures { λ _. ⌜ Labelled b reached (has m) (now (by .entry)) (now (stamp .entry)) (now (by .exit)) (now (stamp .exit)) ⌝ }
+{
+    let mut rest = m;
+    while rest != 0 {
+        let d = mask::lowest(rest);
+        by[d] = b as u16;
+        stamp[d] = reached;
+        rest = mask::clear(rest, d);
+    }
+}
+
+// Block b brings the disks of m: the lowest that has room, which is the answer, or all of them where none has, and then the answer is 64.
+fn reach(
+    b: usize,
+    m: u64,
+    room: u64,
+    reached: u64,
+    by: &mut [u16; 64],
+    stamp: &mut [u64; 64],
+) -> usize
+    requires { ⌜ (b < 1024) × (length (now by) ≡ 64) × (length (now stamp) ≡ 64) ⌝ }
+    ensures { λ r. ⌜ Reached b reached m room (now (by .entry)) (now (stamp .entry)) (now (by .exit)) (now (stamp .exit)) r ⌝ }
+{
+    let d = mask::lowest(mask::both(m, room));
+    if d < 64 {
+        by[d] = b as u16;
+        stamp[d] = reached;
+        return d;
+    }
+    mark(b, m, reached, by, stamp);
+    64
 }
 
 // From the blocks on no disk, over the disks of their copies and the blocks there, to a disk with room.
@@ -114,13 +148,12 @@ fn seek(
                 break 'search Hit::Short(reached);
             }
         } else {
-            let d = choose(mask::without(masks[b], reached), room);
-            by[d] = b as u16;
-            stamp[d] = reached;
-            if mask::test(room, d) {
+            let fresh = mask::without(masks[b], reached);
+            let d = reach(b, fresh, room, reached, by, stamp);
+            if d < 64 {
                 break 'search Hit::Free(d);
             }
-            reached = mask::set(reached, d);
+            reached = mask::either(reached, fresh);
             again = true;
         }
     };
@@ -147,7 +180,8 @@ fn pull(
     }
 }
 
-// One block more on a disk, or the reached disks if there is no way. The blocks before from are bound to their disk; first is where to look first.
+// One block more on a disk, or the reached disks if there is no way. The blocks before from are bound to their disk; first is where to look first;
+// room has the disks that have room.
 pub fn improve(
     n: usize,
     q: usize,
@@ -155,15 +189,15 @@ pub fn improve(
     first: usize,
     masks: &[u64; 1024],
     caps: &[u32; 64],
+    room: u64,
     at: &mut [u8; 1024],
     loads: &mut [u32; 65],
 ) -> Hit
-    requires { ⌜ Ready n q from first (now masks) (now caps) (now at) (now loads) ⌝ }
+    requires { ⌜ (Ready n q from first (now masks) (now caps) (now at) (now loads)) × (Open n (now caps) (now loads) room) ⌝ }
     ensures { λ r. ⌜ Improved n q (now (masks .entry)) (now (caps .entry)) (now (at .entry)) (now (loads .entry)) (now (at .exit)) (now (loads .exit)) r ⌝ }
 {
     let mut by = [0u16; 64];
     let mut stamp = [0u64; 64];
-    let room = open(n, caps, loads);
     let hit = seek(n, q, from, first, masks, at, room, &mut by, &mut stamp);
     match hit {
         Hit::Free(d) => {
@@ -209,12 +243,14 @@ pub fn place_all(
     requires { ⌜ Ready n q 0 0 (now masks) (now caps) (now at) (now loads) ⌝ }
     ensures { λ r. ⌜ Filled n q (now (masks .entry)) (now (caps .entry)) (now (at .exit)) (now (loads .exit)) r ⌝ }
 {
+    let mut room = open(n, caps, loads);
     let mut p = 0;
     loop {
         let first = next_open(n, q, p, at);
-        let hit = improve(n, q, 0, first, masks, caps, at, loads);
+        let hit = improve(n, q, 0, first, masks, caps, room, at, loads);
         match hit {
             Hit::Free(d) => {
+                room = reopen(n, d, caps, loads, room);
                 p = after(q, first);
             }
             Hit::Short(x) => {

@@ -5,8 +5,8 @@ use Prim.Native.Nat.{ℕ, _+_, _≤_, _<_}
 use native.Mathlib.Omega.{arith}
 use lib.ListN.{length, take, getD, length-append}
 use Rattle.number.specs.Encode.{encode, widthOf}
-use Rattle.field.specs.Put.{spellAll, Put, Written}
-use Rattle.field.proofs.Puts.{written-none, written-more}
+use Rattle.field.specs.Put.{spellAll, openingBytes, Put, Written}
+use Rattle.field.proofs.Puts.{written-none, written-more, written-join}
 use Rattle.plan.specs.Adds.{Adds}
 use Rattle.field.proofs.Spell.{spell-append}
 use Rattle.plan.proofs.Spell.{spell-put, take-next, take-whole}
@@ -14,6 +14,13 @@ use Rattle.plan.proofs.Spell.{spell-put, take-next, take-whole}
 pub adds-none : (mid : List ℕ) (at : ℕ) → Adds [] mid at mid at
 unfolding spellAll
 adds-none mid at = record { add = λ out done w h. rw append-nil w }
+
+-- kind, unit and tenancy
+pub adds-opening : (kind unit t : ℕ) {first mid : List ℕ} {p : ℕ} → Written first 0 (openingBytes kind unit t) mid p → Adds (kind ∷ unit ∷ t ∷ []) first 0 mid p
+unfolding spellAll openingBytes
+adds-opening kind unit t {first} {mid} {p} f = record {
+  add = λ out done w h. subst (λ (z : List ℕ). Written out 0 (done ++ (encode kind ++ (encode unit ++ z))) mid p) (sym (append-nil (encode t))) (written-join w f);
+}
 
 module _ {xs first mid after : List ℕ} {at p next : ℕ} (a : Adds xs first at mid p) where
   pub adds-put : {v : ℕ} → Put v mid p next after → Adds (xs ++ (v ∷ [])) first at after next

@@ -1,38 +1,27 @@
 -- Laws of a plan sheet that is read to its end, field by field.
---     whole-as, whole-refused, whole-map     the end of the sheet stands behind whatever is left of it
---     times-length, climb-length     a list has as many entries as were asked for
+--     whole-map                      the end of the sheet stands behind whatever is left of it
 --     last-end, last-stop            the short set's blocks, and the end of the sheet
 --     lists-..                       the disks, the size of the short set, its blocks
 --     check-..                       the fields before them
 use mathlib.Core.Path.{_≡_, refl, sym, ap, _∙_, subst}
-use mathlib.Core.List.{List, [], _∷_}
-use Prim.Native.Nat.{ℕ, zero, suc, _+_, _-_, _≤_}
-use lib.ListN.{length}
+use mathlib.Core.List.{List}
+use Prim.Native.Nat.{ℕ, _-_, _≤_}
 use Rattle.number.proofs.Choice.{pick-elim}
 use Rattle.field.specs.Sheet.{Out, got, refused, Parser, andThen, _>>=_, _>>_, pure, times}
-use Rattle.field.specs.Field.{inside, rising, climb, end, whole}
+use Rattle.field.specs.Field.{opening, inside, climb, end, whole}
 use Rattle.field.specs.declared.Field.{Field}
 use Rattle.field.specs.declared.Field.the-variants.{Got, Refused}
 use Rattle.field.specs.declared.Refusal.{Refusal}
 use Rattle.field.specs.Refusal.{numberOf}
 use Rattle.field.specs.Told.{told}
+use Rattle.field.proofs.Values.{times-all, climb-rises}
+use Rattle.field.proofs.Whole.{whole-as, whole-refused}
 use Rattle.field.proofs.Sheet.{next, then, stops, halts, Step, bind-got, after-got, pure-got}
 use Rattle.plan.specs.declared.Found.{Found}
 use Rattle.plan.specs.declared.Found.the-variants.{Whole}
-use Rattle.plan.specs.Plan.{Plan, ifAny, timeOf, sizeOf, openingOf, listsOf, planFields, planSheet}
+use Rattle.plan.specs.Plan.{Plan, ifAny, timeOf, sizeOf, listsOf, planFields, planSheet}
 use Rattle.plan.specs.Frame.{ended, Checked}
 use Rattle.plan.proofs.Filling.{ended-got, ended-refused}
-
--- ---- the end behind what is left
-
-module _ {A : Type 0} (p : Parser A) (s : List ℕ) (at : ℕ) where
-  pub whole-as : (q : Parser A) (e : ℕ) → p s at ≡ q s e → whole p s at ≡ whole q s e
-  unfolding whole _>>=_
-  whole-as q e h = ap (λ (o : Out A). andThen o (λ a n. (end >> pure a) s n)) h
-
-  pub whole-refused : {n : ℕ} → p s at ≡ refused n → whole p s at ≡ refused n
-  unfolding whole
-  whole-refused h = stops p _ s at h
 
 -- what is accepted, changed
 mapped : {A B : Type 0} → (A → B) → Out A → Out B
@@ -63,22 +52,6 @@ module _ {A B : Type 0} (p : Parser A) (f : A → B) (s : List ℕ) (at : ℕ) w
   whole-map-refused h = whole-map ∙ ap (mapped f) h
 
 -- ---- lists
-
-pub times-length : {A : Type 0} (p : Parser A) (s : List ℕ) (n at : ℕ) (vs : List A) (e : ℕ) → times n p s at ≡ got vs e → length vs ≡ n
-unfolding times
-times-length p s zero at vs e h = sym (ap length (pure-got [] vs s at e h .0))
-times-length p s (suc n) at vs e h =
-    let w : Step (p s at) (λ a m. (times n p >>= λ rest. pure (a ∷ rest)) s m) vs e = bind-got p s at vs e (λ a. times n p >>= λ rest. pure (a ∷ rest)) h in
-    let u : Step (times n p s (w .mid)) (λ rest m. pure (w .found ∷ rest) s m) vs e = bind-got (times n p) s (w .mid) vs e (λ rest. pure (w .found ∷ rest)) (w .last) in
-    sym (ap length (pure-got (w .found ∷ u .found) vs s (u .mid) e (u .last) .0)) ∙ ap suc (times-length p s n (w .mid) (u .found) (u .mid) (u .first))
-
-pub climb-length : (high : ℕ) (s : List ℕ) (n floor at : ℕ) (vs : List ℕ) (e : ℕ) → climb n floor high s at ≡ got vs e → length vs ≡ n
-unfolding climb
-climb-length high s zero floor at vs e h = sym (ap length (pure-got [] vs s at e h .0))
-climb-length high s (suc n) floor at vs e h =
-    let w : Step (rising floor high s at) (λ v m. (climb n (v + 1) high >>= λ rest. pure (v ∷ rest)) s m) vs e = bind-got (rising floor high) s at vs e (λ v. climb n (v + 1) high >>= λ rest. pure (v ∷ rest)) h in
-    let u : Step (climb n (w .found + 1) high s (w .mid)) (λ rest m. pure (w .found ∷ rest) s m) vs e = bind-got (climb n (w .found + 1) high) s (w .mid) vs e (λ rest. pure (w .found ∷ rest)) (w .last) in
-    sym (ap length (pure-got (w .found ∷ u .found) vs s (u .mid) e (u .last) .0)) ∙ ap suc (climb-length high s n (w .found + 1) (w .mid) (u .found) (u .mid) (u .first))
 
 -- what a reader of lists answered
 list-got : {f : Field} (o : Out (List ℕ)) {v e : ℕ} → told f ≡ ended o → f ≡ Got v e → (xs : List ℕ) × (o ≡ got xs e)
@@ -148,8 +121,8 @@ module _ (q r : ℕ) (s : List ℕ) (at : ℕ) {d : Field} (h : told d ≡ ended
             before (w .0) (w .1) ∙ whole-map-got (climb m 0 (q - 1)) _ s next-at (y .1),
             record {
               few = l;
-              blocks = times-length (inside 0 63) s q at (w .0) p (w .1);
-              size = climb-length (q - 1) s m 0 next-at (y .0) (b .mid) all;
+              blocks = times-all (inside 0 63) (λ _. Unit) s (λ _ _ _ _. tt) q at (w .0) p (w .1) .0;
+              size = climb-rises (q - 1) s m 0 next-at (y .0) (b .mid) all .0;
               time = refl;
               disks-end = p;
               short-end = b .mid;
@@ -170,22 +143,22 @@ unfolding sizeOf
 bounds-size q low s at l e = sym (ap (λ (k : ℕ). inside k q s at) l) ∙ e
 
 module _ (unit t : ℕ) (s : List ℕ) where
-  pub check-opening : {n : ℕ} → openingOf unit t s 0 ≡ refused n → planSheet unit t s 0 ≡ refused n
+  pub check-opening : {n : ℕ} → opening 3 unit t s 0 ≡ refused n → planSheet unit t s 0 ≡ refused n
   unfolding planSheet planFields
-  check-opening h = whole-refused (planFields unit t) s 0 (halts (openingOf unit t) _ s 0 h)
+  check-opening h = whole-refused (planFields unit t) s 0 (halts (opening 3 unit t) _ s 0 h)
 
-  module _ {v a : ℕ} (h : openingOf unit t s 0 ≡ got v a) where
+  module _ {v a : ℕ} (h : opening 3 unit t s 0 ≡ got v a) where
     pub check-blocks : {n : ℕ} → inside 0 1024 s a ≡ refused n → planSheet unit t s 0 ≡ refused n
     unfolding planSheet planFields
-    check-blocks g = whole-refused (planFields unit t) s 0 (then (openingOf unit t) _ s 0 h ∙ stops (inside 0 1024) _ s a g)
+    check-blocks g = whole-refused (planFields unit t) s 0 (then (opening 3 unit t) _ s 0 h ∙ stops (inside 0 1024) _ s a g)
 
     module _ {q b : ℕ} (g : inside 0 1024 s a ≡ got q b) where
       pub check-time : {n : ℕ} → timeOf q s b ≡ refused n → planSheet unit t s 0 ≡ refused n
       unfolding planSheet planFields
-      check-time k = whole-refused (planFields unit t) s 0 (then (openingOf unit t) _ s 0 h ∙ next (inside 0 1024) _ s a g ∙ stops (timeOf q) _ s b k)
+      check-time k = whole-refused (planFields unit t) s 0 (then (opening 3 unit t) _ s 0 h ∙ next (inside 0 1024) _ s a g ∙ stops (timeOf q) _ s b k)
 
       pub check-lists : {r c : ℕ} (x : Found) → timeOf q s b ≡ got r c → Checked s (whole (listsOf q r) s c) x → Checked s (planSheet unit t s 0) x
       unfolding planSheet planFields
       check-lists {r} {c} x k y =
-          let e : planSheet unit t s 0 ≡ whole (listsOf q r) s c = whole-as (planFields unit t) s 0 (listsOf q r) c (then (openingOf unit t) _ s 0 h ∙ next (inside 0 1024) _ s a g ∙ next (timeOf q) _ s b k) in
+          let e : planSheet unit t s 0 ≡ whole (listsOf q r) s c = whole-as (planFields unit t) s 0 (listsOf q r) c (then (opening 3 unit t) _ s 0 h ∙ next (inside 0 1024) _ s a g ∙ next (timeOf q) _ s b k) in
           subst (λ (o : Out Plan). Checked s o x) (sym e) y

@@ -8,11 +8,12 @@ use borrow.Author.Tests.{le-leb, lt-leb}
 use lib.ListN.{length, length-append}
 use Rattle.number.specs.Encode.{encode, widthOf}
 use Rattle.number.proofs.Choice.{pick-true, pick-false}
-use Rattle.field.specs.Put.{spellAll}
+use Rattle.field.specs.Put.{spellAll, openingBytes}
 use Rattle.field.specs.declared.Written.the-variants.{Length, Refused}
 use Rattle.field.specs.declared.Refusal.the-variants.{Range, NoRoom}
 use Rattle.field.specs.Refusal.{numberOf}
 use Rattle.field.specs.Send.{Draft, sheet, none, Sent}
+use Rattle.field.proofs.Puts.{front-room}
 use Rattle.field.proofs.Sends.{sent-refused, sent-long, sent-fits}
 use Rattle.plan.specs.Plan.{Plan}
 use Rattle.plan.specs.Draft.{planNumbers, planBytes, counted, planDraft}
@@ -20,6 +21,13 @@ use Rattle.plan.specs.Adds.{Adds}
 use Rattle.plan.proofs.Adding.{adds-all}
 use Rattle.plan.proofs.Receiving.{both, either-false, first-false}
 use Rattle.field.proofs.Spell.{spell-append}
+
+-- where these fields have room, the first three have
+pub opening-room : (kind unit t q r : ℕ) (out : List ℕ) → length (spellAll encode (kind ∷ unit ∷ t ∷ q ∷ r ∷ [])) ≤ length out → length (openingBytes kind unit t) ≤ length out
+unfolding spellAll openingBytes
+opening-room kind unit t q r out h =
+    let e : encode kind ++ (encode unit ++ (encode t ++ (encode q ++ (encode r ++ [])))) ≡ (encode kind ++ (encode unit ++ encode t)) ++ (encode q ++ (encode r ++ [])) = sym (simp append-assoc) in
+    front-room (encode kind ++ (encode unit ++ encode t)) (encode q ++ (encode r ++ [])) out (subst (λ (z : List ℕ). length z ≤ length out) e h)
 
 module _ (unit t : ℕ) (p : Plan) where
   -- the widths of its numbers
@@ -37,6 +45,13 @@ module _ (unit t : ℕ) (p : Plan) where
   pub numbers-parts : ((3 ∷ unit ∷ t ∷ length (p .disks) ∷ p .time ∷ p .disks) ++ (length (p .short) ∷ [])) ++ p .short ≡ planNumbers unit t p
   unfolding planNumbers
   numbers-parts = append-assoc (3 ∷ unit ∷ t ∷ length (p .disks) ∷ p .time ∷ p .disks) (length (p .short) ∷ []) (p .short)
+
+  -- where all of it has room, the fields before the disks have
+  pub head-room : (out : List ℕ) {n : ℕ} → n ≡ length (planBytes unit t p) → n ≤ length out → length (spellAll encode (3 ∷ unit ∷ t ∷ length (p .disks) ∷ p .time ∷ [])) ≤ length out
+  unfolding planBytes planNumbers
+  head-room out e h =
+      front-room (spellAll encode (3 ∷ unit ∷ t ∷ length (p .disks) ∷ p .time ∷ [])) (spellAll encode (p .disks ++ (length (p .short) ∷ p .short))) out
+      (subst (λ (z : List ℕ). length z ≤ length out) (spell-append encode (3 ∷ unit ∷ t ∷ length (p .disks) ∷ p .time ∷ []) (p .disks ++ (length (p .short) ∷ p .short))) (subst (λ (k : ℕ). k ≤ length out) e h))
 
   -- the sheet is there
   pub draft : length (p .disks) ≤ 1024 → length (p .short) ≤ 1024 → planDraft unit t p ≡ sheet (planBytes unit t p)

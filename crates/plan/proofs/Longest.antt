@@ -1,14 +1,15 @@
 -- The longest plan sheet has 2,964 bytes.
 use mathlib.Core.Path.{_≡_, refl, ap, _∙_}
 use mathlib.Core.List.{List, [], _∷_}
-use Prim.Native.Nat.{ℕ, _+_, _-_, _*_, _/_, _≤_, _<_}
+use Prim.Native.Nat.{ℕ, _+_, _-_, _*_, _≤_}
 use native.Mathlib.Omega.{arith}
 use borrow.Author.Tests.{le-leb, ltb-true, ltb-false}
 use lib.Dec.{ltb}
 use lib.ListN.{length, length-append}
 use Rattle.number.specs.Encode.{encode, widthOf}
 use Rattle.number.proofs.Choice.{pick-true, either}
-use Rattle.number.proofs.Encode.{width-one, width-more, width-bounds}
+use Rattle.number.proofs.Encode.{width-one, width-bounds}
+use Rattle.field.proofs.Spell.{width-two}
 use Rattle.field.specs.Put.{spellAll}
 use Rattle.field.specs.Sheet.{got}
 use Rattle.field.specs.Send.{Draft, answerTo}
@@ -17,14 +18,6 @@ use Rattle.plan.specs.Plan.{Plan}
 use Rattle.plan.specs.Range.{InRange}
 use Rattle.plan.specs.Draft.{planBytes, planDraft}
 use Rattle.plan.proofs.Drafting.{bytes-length, draft}
-
--- two groups of seven bits
-width-two : (v : ℕ) → v < 16384 → widthOf v ≤ 2
-width-two v h =
-    either (ltb v 128) (λ t. omega (arith, width-one v (ltb-true v 128 t)))
-    (λ f.
-    let l : 128 ≤ v = ltb-false v 128 f in
-    omega (arith, width-more v l (omega arith), width-one (v / 128) (omega arith)))
 
 -- a disk number has one byte
 disks-width : (xs : List ℕ) → All (λ d. d ≤ 63) xs → length (spellAll encode xs) ≡ length xs

@@ -15,7 +15,7 @@ use Rattle.field.specs.Field.{inside, climb}
 use Rattle.field.specs.declared.Refusal.{Refusal}
 use Rattle.field.specs.declared.Refusal.the-variants.{NoRoom}
 use Rattle.field.specs.Refusal.{numberOf}
-use Rattle.field.proofs.Spelt.{whole-got}
+use Rattle.field.proofs.Whole.{whole-got}
 use Rattle.plan.specs.declared.Frame.{Frame}
 use Rattle.plan.specs.declared.Found.{Found}
 use Rattle.plan.specs.declared.Found.the-variants.{Whole}

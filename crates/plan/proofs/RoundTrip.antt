@@ -5,25 +5,26 @@
 --     write-read       writing what `read` accepted gives the same bytes
 use mathlib.Core.Path.{_≡_, refl, sym, ap, _∙_, subst}
 use mathlib.Core.List.{List, _∷_, _++_, append-assoc}
-use Prim.Native.Nat.{ℕ, zero, suc, _+_, _-_, _^_, _≤_, _<_}
+use Prim.Native.Nat.{ℕ, zero, suc, _-_, _^_, _≤_, _<_}
 use native.Mathlib.Omega.{arith}
-use lib.Dec.{leb}
 use lib.ListN.{length, take, drop}
 use lib.Seq.{take-at}
 use Rattle.number.specs.Bytes.{Bytes}
 use Rattle.number.specs.Encode.{encode}
-use Rattle.field.specs.Sheet.{got, refused, _>>=_, _>>_, pure, times}
-use Rattle.field.specs.Field.{exactly, tenancy, inside, climb}
-use Rattle.number.proofs.Choice.{pick-true, pick-false, either}
-use Rattle.field.specs.Put.{spellAll, paste}
+use Rattle.field.specs.Sheet.{got, _>>=_, pure, times}
+use Rattle.field.specs.Field.{opening, inside, climb}
+use Rattle.field.specs.Put.{spellAll, openingBytes}
 use Rattle.field.specs.declared.Written.the-variants.{Length}
-use Rattle.field.specs.Send.{Draft, sheet, toldWritten, answerTo, leftBy, Sent}
+use Rattle.field.specs.Send.{Draft, sheet, Sent}
 use Rattle.field.proofs.Sheet.{Step, bind-got, after-got, pure-got}
-use Rattle.field.proofs.Read.{Reads, reads-bind, reads-then, reads-checked, reads-pure, reads-exactly, reads-tenancy, reads-inside, reads-whole}
-use Rattle.field.proofs.Spelt.{Spelt, spelt-join, spelt-whole, whole-got, exactly-spelt, tenancy-spelt, inside-spelt}
+use Rattle.field.proofs.Read.{Reads, reads-bind, reads-then, reads-checked, reads-pure, reads-inside, reads-whole}
+use Rattle.field.proofs.Spelt.{Spelt, spelt-join, spelt-whole, inside-spelt}
+use Rattle.field.proofs.Whole.{whole-got}
+use Rattle.field.proofs.Opened.{reads-opening, opening-spelt}
+use Rattle.field.proofs.Sends.{sent-bytes}
 use Rattle.field.specs.Lists.{All, Rises}
 use Rattle.field.proofs.Lists.{reads-times, reads-climb, times-spelt, climb-spelt}
-use Rattle.plan.specs.Plan.{Plan, ifAny, timeOf, sizeOf, openingOf, listsOf, planFields, planSheet}
+use Rattle.plan.specs.Plan.{Plan, ifAny, timeOf, sizeOf, listsOf, planFields, planSheet}
 use Rattle.plan.specs.Range.{InRange}
 use Rattle.plan.specs.Receive.{over, Received}
 use Rattle.plan.specs.Draft.{planNumbers, planBytes, planDraft}
@@ -41,14 +42,11 @@ any-most (suc q) n = omega arith
 
 -- ---- the bytes, part by part
 
-openingBytes : ℕ → ℕ → List ℕ
-openingBytes unit t = encode 3 ++ (encode unit ++ encode t)
-
 listsBytes : Plan → List ℕ
 listsBytes p = spellAll encode (p .disks) ++ (encode (length (p .short)) ++ spellAll encode (p .short))
 
 module _ (unit t : ℕ) (p : Plan) where
-  bytes-parts : openingBytes unit t ++ (encode (length (p .disks)) ++ (encode (p .time) ++ listsBytes p)) ≡ planBytes unit t p
+  bytes-parts : openingBytes 3 unit t ++ (encode (length (p .disks)) ++ (encode (p .time) ++ listsBytes p)) ≡ planBytes unit t p
   unfolding planBytes planNumbers spellAll openingBytes listsBytes
   bytes-parts =
       let e : spellAll encode (p .disks ++ (length (p .short) ∷ p .short)) ≡ listsBytes p = spell-append encode (p .disks) (length (p .short) ∷ p .short) in
@@ -57,10 +55,6 @@ module _ (unit t : ℕ) (p : Plan) where
   -- ---- reading after writing
 
   module _ (u : unit < 2 ^ 32) (l : 0 < t) (h : t < 2 ^ 32) (r : InRange p) where
-    reads-opening : Reads (openingOf unit t) (openingBytes unit t) t
-    unfolding openingOf openingBytes
-    reads-opening = reads-then (reads-exactly 3 3 (omega arith)) (reads-then (reads-exactly unit 4 u) (reads-tenancy t l h))
-
     reads-lists : Reads (listsOf (length (p .disks)) (p .time)) (listsBytes p) p
     unfolding listsOf listsBytes sizeOf
     reads-lists =
@@ -68,10 +62,10 @@ module _ (unit t : ℕ) (p : Plan) where
         (reads-bind _ (reads-inside (ifAny (length (p .disks)) 1) (length (p .disks)) (length (p .short)) (r .size-from) (r .size-to) (omega (arith, r .few, r .size-to)))
         (reads-checked _ (reads-climb (length (p .disks) - 1) (omega (arith, r .few)) 0 (p .short) (r .blocks)) (reads-pure p)))
 
-    reads-plan : Reads (planFields unit t) (openingBytes unit t ++ (encode (length (p .disks)) ++ (encode (p .time) ++ listsBytes p))) p
+    reads-plan : Reads (planFields unit t) (openingBytes 3 unit t ++ (encode (length (p .disks)) ++ (encode (p .time) ++ listsBytes p))) p
     unfolding planFields timeOf
     reads-plan =
-        reads-then reads-opening
+        reads-then (reads-opening 3 unit t (omega arith) u l h)
         (reads-bind _ (reads-inside 0 1024 (length (p .disks)) (omega arith) (r .few) (omega (arith, r .few)))
         (reads-bind _ (reads-inside (ifAny (length (p .disks)) 1) (ifAny (length (p .disks)) 1125000000) (p .time) (r .time-from) (r .time-to) (omega (arith, r .time-to, any-most (length (p .disks)) 1125000000)))
         reads-lists))
@@ -83,19 +77,6 @@ module _ (unit t : ℕ) (p : Plan) where
 -- ---- writing after reading
 
 module _ (s : List ℕ) (b : Bytes s) where
-  opening-spelt : (unit t at v e : ℕ) → openingOf unit t s at ≡ got v e → Spelt s at e (openingBytes unit t) × (0 < t)
-  unfolding openingOf openingBytes
-  opening-spelt unit t at v e h =
-      let k : Step (exactly 3 3 s at) (λ _ n. (exactly unit 4 >> tenancy t) s n) v e = after-got (exactly 3 3) s at v e (exactly unit 4 >> tenancy t) h in
-      let u : Step (exactly unit 4 s (k .mid)) (λ _ n. tenancy t s n) v e = after-got (exactly unit 4) s (k .mid) v e (tenancy t) (k .last) in
-      let k′ : Spelt s at (k .mid) (encode (k .found)) × (k .found ≡ 3) = exactly-spelt s at (k .found) (k .mid) b 3 3 (k .first) in
-      let u′ : Spelt s (k .mid) (u .mid) (encode (u .found)) × (u .found ≡ unit) = exactly-spelt s (k .mid) (u .found) (u .mid) b unit 4 (u .first) in
-      let t′ : Spelt s (u .mid) e (encode v) × (v ≡ t) × (0 < v) = tenancy-spelt s (u .mid) v e b t (u .last) in (
-        spelt-join (subst (λ (x : ℕ). Spelt s at (k .mid) (encode x)) (k′ .1) (k′ .0))
-            (spelt-join (subst (λ (x : ℕ). Spelt s (k .mid) (u .mid) (encode x)) (u′ .1) (u′ .0)) (subst (λ (x : ℕ). Spelt s (u .mid) e (encode x)) (t′ .1) (t′ .0))),
-        omega (arith, t′ .1, t′ .2),
-      )
-
   -- what the lists of an accepted sheet are
   record Lists (q r at : ℕ) (p : Plan) (e : ℕ) : Type 0 where
     spelt : Spelt s at e (listsBytes p)
@@ -145,8 +126,8 @@ module _ (s : List ℕ) (b : Bytes s) where
   unfolding planSheet planFields timeOf
   sheet-exact unit t p e h =
       let w : (planFields unit t s 0 ≡ got p e) × (e ≡ length s) = whole-got (planFields unit t) s p e h in
-      let o : Step (openingOf unit t s 0) (λ _ n. (inside 0 1024 >>= λ q. timeOf q >>= λ r. listsOf q r) s n) p e = after-got (openingOf unit t) s 0 p e _ (w .0) in
-      let o′ : Spelt s 0 (o .mid) (openingBytes unit t) × (0 < t) = opening-spelt unit t 0 (o .found) (o .mid) (o .first) in
+      let o : Step (opening 3 unit t s 0) (λ _ n. (inside 0 1024 >>= λ q. timeOf q >>= λ r. listsOf q r) s n) p e = after-got (opening 3 unit t) s 0 p e _ (w .0) in
+      let o′ : Spelt s 0 (o .mid) (openingBytes 3 unit t) × (0 < t) = opening-spelt 3 unit t s b 0 (o .found) (o .mid) (o .first) in
       let q : Step (inside 0 1024 s (o .mid)) (λ q n. (timeOf q >>= λ r. listsOf q r) s n) p e = bind-got (inside 0 1024) s (o .mid) p e _ (o .last) in
       let q′ : Spelt s (o .mid) (q .mid) (encode (q .found)) × (0 ≤ q .found) × (q .found ≤ 1024) = inside-spelt s (o .mid) (q .found) (q .mid) b 0 1024 (q .first) in
       let r : Step (timeOf (q .found) s (q .mid)) (λ r n. listsOf (q .found) r s n) p e = bind-got (timeOf (q .found)) s (q .mid) p e _ (q .last) in
@@ -163,20 +144,6 @@ module _ (s : List ℕ) (b : Bytes s) where
 
 same-plan : (r r′ : ℕ) (ds ds′ bs bs′ : List ℕ) → r ≡ r′ → ds ≡ ds′ → bs ≡ bs′ → _≡_ {A = Plan} (record { time = r; disks = ds; short = bs }) (record { time = r′; disks = ds′; short = bs′ })
 same-plan r r′ ds ds′ bs bs′ x y z = cc
-
--- the buffer begins with a sheet that was sent
-sent-bytes : (bs out : List ℕ) (n : ℕ) (after : List ℕ) → Sent (sheet bs) out (Length n) after → (n ≡ length bs) × (take n after ≡ bs)
-unfolding toldWritten answerTo leftBy paste
-sent-bytes bs out n after w =
-    either (leb (length bs) (length out))
-    (λ t.
-    let a : got tt n ≡ got tt (length bs) = w .answer ∙ pick-true _ _ t in
-    let k : n ≡ length bs = cc in
-    let x : after ≡ bs ++ drop (0 + length bs) out = w .held ∙ pick-true _ _ t in
-    (k, ap (take n) x ∙ take-at bs (drop (0 + length bs) out) n (sym k)))
-    (λ f.
-    let a : got tt n ≡ refused 11 = w .answer ∙ pick-false _ _ f in
-    absurd (let z : _≡_ {A = ℕ} 0 1 = cc in omega arith))
 
 -- the first entries of a list that was filled
 over-first : (xs list : List ℕ) (n : ℕ) → n ≡ length xs → take n (over xs list) ≡ xs

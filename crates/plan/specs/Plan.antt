@@ -1,13 +1,13 @@
 -- The plan sheet.
 --     Plan         a plan's values: its time, a disk for each block, and its short set
 --     timeOf, sizeOf          R and m, for Q blocks
---     openingOf, listsOf      the fields before Q, and those behind R
+--     listsOf                 the fields behind R
 --     planFields              all fields in order
 --     planSheet    the sheet of a plan, for a unit and a tenancy
 use Prim.Native.Nat.{ℕ, zero, suc, _-_}
 use mathlib.Core.List.{List}
 use Rattle.field.specs.Sheet.{Parser, _>>=_, _>>_, pure, times}
-use Rattle.field.specs.Field.{exactly, tenancy, inside, climb, whole}
+use Rattle.field.specs.Field.{opening, inside, climb, whole}
 
 pub record Plan : Type 0 where
   pub time : ℕ
@@ -27,13 +27,6 @@ timeOf q = inside (ifAny q 1) (ifAny q 1125000000)
 unfoldable pub sizeOf : ℕ → Parser ℕ
 sizeOf q = inside (ifAny q 1) q
 
--- kind 3, unit, tenancy
-unfoldable pub openingOf : ℕ → ℕ → Parser ℕ
-openingOf unit t = do
-  exactly 3 3
-  exactly unit 4
-  tenancy t
-
 -- a disk number for each block, short set size m, m block numbers, rising
 unfoldable pub listsOf : ℕ → ℕ → Parser Plan
 listsOf q r = do
@@ -45,7 +38,7 @@ listsOf q r = do
 -- kind 3, unit, tenancy, Q, R and the lists
 unfoldable pub planFields : ℕ → ℕ → Parser Plan
 planFields unit t = do
-  openingOf unit t
+  opening 3 unit t
   q ← inside 0 1024
   r ← timeOf q
   listsOf q r

@@ -12,7 +12,7 @@ ghost use Rattle.field.specs.Field.{inside, climb, whole};
 ghost use Rattle.field.specs.Put.{spellAll};
 ghost use Rattle.field.specs.Send.{Sent};
 ghost use Rattle.field.specs.Told.{told};
-ghost use Rattle.plan.specs.Plan.{Plan, ifAny, openingOf, listsOf, planSheet};
+ghost use Rattle.plan.specs.Plan.{Plan, ifAny, listsOf, planSheet};
 ghost use Rattle.plan.specs.Receive.{Received};
 ghost use Rattle.plan.specs.Draft.{planBytes, planDraft};
 ghost use Rattle.plan.specs.Frame.{ended, Filled, Framed, Checked};
@@ -63,19 +63,6 @@ fn last(q: u32) -> u32
     if q == 0 { 0 } else { q - 1 }
 }
 
-// Kind, unit and tenancy.
-fn opening(s: &[u8], unit: u32, tenancy: u32) -> Field
-    ensures { λ r. ⌜ told r ≡ openingOf unit tenancy (now (s .entry)) 0 ⌝ }
-{
-    match field::exact(s, 0, 3, Refusal::Kind) {
-        Field::Got(_, at) => match field::exact(s, at, unit, Refusal::Unit) {
-            Field::Got(_, next) => field::tenant(s, next, tenancy),
-            Field::Refused(e) => Field::Refused(e),
-        },
-        Field::Refused(e) => Field::Refused(e),
-    }
-}
-
 // The disks of q blocks, put at the start of a list.
 fn read_disks(s: &[u8], at: usize, q: u32, out: &mut [u8]) -> Field
     requires { ⌜ q ≤ length (now out) ⌝ }
@@ -120,6 +107,15 @@ fn read_short(s: &[u8], at: usize, m: u32, high: u32, out: &mut [u16]) -> Field
     Field::Got(0, p)
 }
 
+// The place after the disks of q blocks.
+fn past_disks(s: &[u8], at: usize, q: u32) -> Field
+    requires { ⌜ q ≤ 1024 ⌝ }
+    ensures { λ r. ⌜ told r ≡ ended (times q (inside 0 63) (now (s .entry)) at) ⌝ }
+{
+    let mut scratch = [0u8; 1024];
+    read_disks(s, at, q, &mut scratch)
+}
+
 // The short set's blocks, and then the end of the sheet.
 fn short_last(s: &[u8], at: usize, m: u32, q: u32) -> Field
     requires { ⌜ (m ≤ q) × (q ≤ 1024) ⌝ }
@@ -137,8 +133,7 @@ fn lists(s: &[u8], at: usize, q: u32, time: u32) -> Found
     requires { ⌜ q ≤ 1024 ⌝ }
     ensures { λ r. ⌜ Checked (now (s .entry)) (whole (listsOf q time) (now (s .entry)) at) r ⌝ }
 {
-    let mut scratch = [0u8; 1024];
-    match read_disks(s, at, q, &mut scratch) {
+    match past_disks(s, at, q) {
         Field::Got(_, p) => match field::ranged(s, p, if_any(q, 1), q) {
             Field::Got(m, next) => match short_last(s, next, m, q) {
                 Field::Got(_, _) => Found::Whole(Frame {
@@ -160,7 +155,7 @@ fn lists(s: &[u8], at: usize, q: u32, time: u32) -> Found
 fn check(s: &[u8], unit: u32, tenancy: u32) -> Found
     ensures { λ r. ⌜ Checked (now (s .entry)) (planSheet unit tenancy (now (s .entry)) 0) r ⌝ }
 {
-    match opening(s, unit, tenancy) {
+    match field::opening(s, 3, unit, tenancy) {
         Field::Got(_, at) => match field::ranged(s, at, 0, 1024) {
             Field::Got(q, p) => match field::ranged(s, p, if_any(q, 1), if_any(q, 1_125_000_000)) {
                 Field::Got(r, next) => lists(s, next, q, r),
@@ -263,13 +258,12 @@ fn put_short(xs: &[u16], out: &mut [u8], at: usize) -> usize
 
 // The fields before the disks.
 fn put_head(unit: u32, tenancy: u32, q: u32, time: u32, out: &mut [u8]) -> usize
+    requires { ⌜ length (spellAll encode (3 ∷ unit ∷ tenancy ∷ q ∷ time ∷ [])) ≤ length (now out) ⌝ }
     ensures { λ r. ⌜ Adds (3 ∷ unit ∷ tenancy ∷ q ∷ time ∷ []) (now (out .entry)) 0 (now (out .exit)) r ⌝ }
 {
-    let a = field::put(3, out, 0);
-    let b = field::put(unit, out, a);
-    let c = field::put(tenancy, out, b);
-    let d = field::put(q, out, c);
-    field::put(time, out, d)
+    let a = field::put_opening(3, unit, tenancy, out);
+    let b = field::put(q, out, a);
+    field::put(time, out, b)
 }
 
 // The length of the sheet.

@@ -3,9 +3,9 @@
 --     Accepts, accepted                          what is known of the copies that are handed out
 --     accepted-at, accepted-beyond               the same of one place
 --     refused-sheet                              what a refusal says of the sheet
-use mathlib.Core.Path.{_≡_, refl, sym, ap, _∙_, subst}
-use mathlib.Core.List.{List, [], _∷_, _++_}
-use Prim.Native.Nat.{ℕ, zero, suc, _+_, _-_, _^_, _≤_, _<_}
+use mathlib.Core.Path.{_≡_, sym, ap, _∙_, subst}
+use mathlib.Core.List.{List, _++_}
+use Prim.Native.Nat.{ℕ, _+_, _-_, _^_, _≤_, _<_}
 use native.Mathlib.Omega.{arith}
 use borrow.Author.Tests.{ltb-true, ltb-false}
 use lib.Dec.{ltb}
@@ -16,8 +16,7 @@ use Rattle.mask.specs.Count.{members}
 use Rattle.mask.proofs.Members.{members-zero}
 use Rattle.field.specs.declared.Refusal.{Refusal}
 use Rattle.field.specs.Refusal.{numberOf}
-use Rattle.field.specs.Sheet.{Out, got, refused, Parser, _>>=_, _>>_, pure, times}
-use Rattle.field.specs.Field.{rising, climb}
+use Rattle.field.specs.Sheet.{Out, got, refused}
 use Rattle.field.proofs.Values.{climb-rises, times-all, all-at}
 use Rattle.field.specs.Lists.{All, Rises}
 use Rattle.request.specs.declared.Answer.the-variants.{Accepted, Refused}

@@ -5,7 +5,7 @@
 --     heading-length, blocks-bound, longest    the lengths
 use mathlib.Core.Path.{_≡_, refl, sym, _∙_, subst}
 use mathlib.Core.Bool.{Bool, true, false}
-use mathlib.Core.List.{List, [], _∷_, _++_}
+use mathlib.Core.List.{List, [], _∷_}
 use Prim.Native.Nat.{ℕ, _+_, _*_, _^_, _≤_, _<_}
 use native.Mathlib.Omega.{arith}
 use borrow.Author.Tests.{eq-eqb, ne-eqb, lt-ltb, le-ltb, lt-leb, eqb-false, ltb-false, leb-false}
@@ -19,14 +19,14 @@ use Rattle.mask.specs.Count.{members}
 use Rattle.field.specs.declared.Refusal.{Refusal}
 use Rattle.field.specs.declared.Written.{Written}
 use Rattle.field.specs.declared.Written.the-variants.{Length, Refused}
-use Rattle.field.specs.Put.{spellAll}
-use Rattle.field.specs.Put.{Written as Wrote}
+use Rattle.field.specs.Put.{spellAll, openingBytes, Written as Wrote}
 use Rattle.field.specs.Refusal.{numberOf}
 use Rattle.field.specs.Send.{Draft, sheet, none, Sent}
 use Rattle.field.specs.Lists.{All}
 use Rattle.field.proofs.Sends.{sent-fits}
 use Rattle.request.specs.Draft.{blockBytes, headingBytes, requestBytes, checked, requestDraft, Counted, Sized}
 use Rattle.field.proofs.Puts.{written-length, written-join}
+use Rattle.field.proofs.Opened.{opening-length}
 use Rattle.request.proofs.Writing.{block-length}
 
 -- ---- in field order
@@ -122,14 +122,7 @@ drafted unit t n ms bs h =
 
 pub heading-length : (unit t q : ℕ) → length (headingBytes unit t q) ≡ 1 + widthOf unit + widthOf t + widthOf q
 unfolding headingBytes widthOf
-heading-length unit t q =
-    omega (
-      arith,
-      length-append (encode 2) (encode unit ++ (encode t ++ encode q)),
-      length-append (encode unit) (encode t ++ encode q),
-      length-append (encode t) (encode q),
-      width-one 2 (omega arith),
-    )
+heading-length unit t q = omega (arith, length-append (openingBytes 2 unit t) (encode q), opening-length 2 unit t, width-one 2 (omega arith))
 
 pub blocks-bound : (n : ℕ) (ms : List ℕ) → All (Sendable n) ms → length (spellAll blockBytes ms) ≤ 9 * length ms
 unfolding spellAll All

@@ -2,12 +2,12 @@
 --     last-few, last-all, last-le                          the last disk
 --     gather-done, gather-step, gather-stop                the disks of a block, one by one
 --     block-none, block-many, block-of, block-stops        a block, by its copy count
---     heading-kind, -unit, -tenancy, -unset, -count        the fields before the blocks, by where they stop
+--     heading-stops, -unset, -count                        the fields before the blocks, by where they stop
 --     Filled, filled-start, -step, -stop, -extra, -done    the blocks, as a loop
 --     sheet-next, sheet-stops, answered-of, answered-sheet the whole sheet
 --     Listed, Headed, Whole, block-got, heading-got, sheet-got     what an accepted block, heading or sheet says of each part
 use mathlib.Core.Path.{_≡_, refl, sym, ap, _∙_, subst}
-use mathlib.Core.Bool.{Bool, true, not, true≢false}
+use mathlib.Core.Bool.{true, not, true≢false}
 use mathlib.Core.List.{List, _∷_, _++_}
 use Prim.Native.Nat.{ℕ, suc, _+_, _-_, _^_, _≤_, _<_}
 use native.Mathlib.Omega.{arith}
@@ -19,11 +19,11 @@ use Rattle.number.proofs.Choice.{pick-true, pick-false, pick-elim}
 use Rattle.field.specs.declared.Refusal.{Refusal}
 use Rattle.field.specs.Refusal.{numberOf}
 use Rattle.field.specs.Sheet.{Out, got, refused, Parser, andThen, _>>=_, _>>_, pure, require, times}
-use Rattle.field.specs.Field.{number, exactly, tenancy, inside, rising, climb, end, whole}
+use Rattle.field.specs.Field.{number, opening, inside, rising, climb, end, whole}
 use Rattle.field.proofs.Sheet.{next, then, stops, halts, pass, fail, Step, bind-got, after-got, passed, pure-got}
 use Rattle.field.proofs.Values.{inside-range}
 use Rattle.field.proofs.Lists.{prefix, times-start, times-step, times-stop, times-done}
-use Rattle.field.proofs.Spelt.{whole-got}
+use Rattle.field.proofs.Whole.{whole-next, whole-stops, whole-got, end-place}
 use Rattle.request.specs.declared.Answer.the-variants.{Accepted}
 use Rattle.request.specs.declared.Copies.{Copies}
 use Rattle.request.specs.declared.Copies.the-variants.{Got}
@@ -148,67 +148,37 @@ block-got high s at m e h =
 -- ---- the fields before the blocks
 
 module _ (unit t n : ℕ) (s : List ℕ) where
-  pub heading-kind : {m : ℕ} → exactly 2 3 s 0 ≡ refused m → heading unit t n s 0 ≡ refused m
+  pub heading-stops : {m : ℕ} → opening 2 unit t s 0 ≡ refused m → heading unit t n s 0 ≡ refused m
   unfolding heading
-  heading-kind h = halts (exactly 2 3) _ s 0 h
+  heading-stops h = halts (opening 2 unit t) _ s 0 h
 
-  module _ {k a : ℕ} (f : exactly 2 3 s 0 ≡ got k a) where
-    pub heading-unit : {m : ℕ} → exactly unit 4 s a ≡ refused m → heading unit t n s 0 ≡ refused m
+  module _ {v e : ℕ} (h : opening 2 unit t s 0 ≡ got v e) where
+    pub heading-unset : n ≡ 0 → heading unit t n s 0 ≡ refused 10
     unfolding heading
-    heading-unit h = then (exactly 2 3) _ s 0 f ∙ halts (exactly unit 4) _ s a h
+    heading-unset z = then (opening 2 unit t) _ s 0 h ∙ fail 10 _ s e (le-ltb 0 n (omega arith))
 
-    module _ {u b : ℕ} (g : exactly unit 4 s a ≡ got u b) where
-      pub heading-tenancy : {m : ℕ} → tenancy t s b ≡ refused m → heading unit t n s 0 ≡ refused m
-      unfolding heading
-      heading-tenancy h = then (exactly 2 3) _ s 0 f ∙ then (exactly unit 4) _ s a g ∙ halts (tenancy t) _ s b h
+    pub heading-count : (n ≡ 0 → ⊥) → heading unit t n s 0 ≡ inside 0 1024 s e
+    unfolding heading
+    heading-count z = then (opening 2 unit t) _ s 0 h ∙ pass 10 _ s e (lt-ltb 0 n (omega arith))
 
-      module _ {w c : ℕ} (i : tenancy t s b ≡ got w c) where
-        pub heading-unset : n ≡ 0 → heading unit t n s 0 ≡ refused 10
-        unfolding heading
-        heading-unset z = then (exactly 2 3) _ s 0 f ∙ then (exactly unit 4) _ s a g ∙ then (tenancy t) _ s b i ∙ fail 10 _ s c (le-ltb 0 n (omega arith))
-
-        pub heading-count : (n ≡ 0 → ⊥) → heading unit t n s 0 ≡ inside 0 1024 s c
-        unfolding heading
-        heading-count z = then (exactly 2 3) _ s 0 f ∙ then (exactly unit 4) _ s a g ∙ then (tenancy t) _ s b i ∙ pass 10 _ s c (lt-ltb 0 n (omega arith))
-
--- what an accepted heading says of each field
+-- what an accepted heading says of each part
 pub record Headed (unit t n : ℕ) (s : List ℕ) (q e : ℕ) : Type 0 where
-  pub kind : ℕ
-  pub num : ℕ
   pub lease : ℕ
-  pub a : ℕ
-  pub b : ℕ
-  pub c : ℕ
-  pub first : exactly 2 3 s 0 ≡ got kind a
-  pub second : exactly unit 4 s a ≡ got num b
-  pub third : tenancy t s b ≡ got lease c
+  pub mid : ℕ
+  pub first : opening 2 unit t s 0 ≡ got lease mid
   pub known : ltb 0 n ≡ true
-  pub last : inside 0 1024 s c ≡ got q e
+  pub last : inside 0 1024 s mid ≡ got q e
 
 pub heading-got : (unit t n : ℕ) (s : List ℕ) (q e : ℕ) → heading unit t n s 0 ≡ got q e → Headed unit t n s q e
 unfolding heading
 heading-got unit t n s q e h =
-    let f : Step (exactly 2 3 s 0) (λ _ m. (exactly unit 4 >> (tenancy t >> (require (ltb 0 n) 10 >> inside 0 1024))) s m) q e = after-got (exactly 2 3) s 0 q e (exactly unit 4 >> (tenancy t >> (require (ltb 0 n) 10 >> inside 0 1024))) h in
-    let g : Step (exactly unit 4 s (f .mid)) (λ _ m. (tenancy t >> (require (ltb 0 n) 10 >> inside 0 1024)) s m) q e = after-got (exactly unit 4) s (f .mid) q e (tenancy t >> (require (ltb 0 n) 10 >> inside 0 1024)) (f .last) in
-    let i : Step (tenancy t s (g .mid)) (λ _ m. (require (ltb 0 n) 10 >> inside 0 1024) s m) q e = after-got (tenancy t) s (g .mid) q e (require (ltb 0 n) 10 >> inside 0 1024) (g .last) in
-    let j : (ltb 0 n ≡ true) × (inside 0 1024 s (i .mid) ≡ got q e) = passed (ltb 0 n) 10 (inside 0 1024) s (i .mid) q e (i .last) in
-    record {
-      kind = f .found;
-      num = g .found;
-      lease = i .found;
-      a = f .mid;
-      b = g .mid;
-      c = i .mid;
-      first = f .first;
-      second = g .first;
-      third = i .first;
-      known = j .0;
-      last = j .1;
-    }
+    let f : Step (opening 2 unit t s 0) (λ _ m. (require (ltb 0 n) 10 >> inside 0 1024) s m) q e = after-got (opening 2 unit t) s 0 q e (require (ltb 0 n) 10 >> inside 0 1024) h in
+    let j : (ltb 0 n ≡ true) × (inside 0 1024 s (f .mid) ≡ got q e) = passed (ltb 0 n) 10 (inside 0 1024) s (f .mid) q e (f .last) in
+    record { lease = f .found; mid = f .mid; first = f .first; known = j .0; last = j .1 }
 
 -- Q is in its range
 pub heading-within : (unit t n : ℕ) (s : List ℕ) {q e : ℕ} → heading unit t n s 0 ≡ got q e → q ≤ 1024
-heading-within unit t n s {q} {e} h = let g : Headed unit t n s q e = heading-got unit t n s q e h in inside-range s (g .c) 0 1024 q e (g .last) .1
+heading-within unit t n s {q} {e} h = let g : Headed unit t n s q e = heading-got unit t n s q e h in inside-range s (g .mid) 0 1024 q e (g .last) .1
 
 -- ---- the blocks
 
@@ -222,13 +192,6 @@ pub record Filled (q high : ℕ) (s : List ℕ) (at : ℕ) (copies : List ℕ) (
 -- one 0 less
 drop-zeros : (k : ℕ) → k < 1024 → drop {A = ℕ} 1 (replicate (1024 - k) 0) ≡ replicate (1024 - (k + 1)) 0
 drop-zeros k h = ap (λ (j : ℕ). drop {A = ℕ} 1 (replicate j 0)) {x = 1024 - k} {y = suc (1024 - (k + 1))} (omega arith)
-
--- where the end of the sheet was found
-end-place : (s : List ℕ) (p v e : ℕ) → end s p ≡ got v e → e ≡ length s
-unfolding whole pure
-end-place s p v e h =
-    let fields : Parser Unit = λ _ _. got tt p in
-    whole-got fields s tt e (next fields _ s 0 refl ∙ then end _ s p h) .1
 
 module _ (q high : ℕ) (s : List ℕ) (at : ℕ) where
   pub filled-start : Filled q high s at (replicate 1024 0) at 0
@@ -277,15 +240,6 @@ module _ (q high : ℕ) (s : List ℕ) (at : ℕ) where
 -- what is told of a refusal is told of a sheet that is refused so
 pub answered-of : {len n : ℕ} {o : Out (List ℕ)} {r : Request} → o ≡ refused n → Answered len (refused n) r → Answered len o r
 answered-of {len} {n} {o} {r} h a = subst (λ (x : Out (List ℕ)). Answered len x r) (sym h) a
-
--- the first fields of a whole sheet, then the others
-whole-next : {A B : Type 0} (p : Parser A) (k : A → Parser B) (s : List ℕ) (at : ℕ) {a : A} {e : ℕ} → p s at ≡ got a e → whole (p >>= k) s at ≡ whole (k a) s e
-unfolding whole _>>=_
-whole-next {A} {B} p k s at h = ap (λ (o : Out B). andThen o (λ b n. (end >> pure b) s n)) (next p k s at h)
-
-whole-stops : {A B : Type 0} (p : Parser A) (k : A → Parser B) (s : List ℕ) (at : ℕ) {n : ℕ} → p s at ≡ refused n → whole (p >>= k) s at ≡ refused n
-unfolding whole
-whole-stops p k s at h = stops (p >>= k) _ s at (stops p k s at h)
 
 module _ (unit t n : ℕ) (s : List ℕ) where
   pub sheet-next : {q e : ℕ} → heading unit t n s 0 ≡ got q e → requestSheet unit t n s 0 ≡ whole (times q (block (lastDisk n))) s e

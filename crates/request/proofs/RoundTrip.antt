@@ -5,21 +5,21 @@
 use mathlib.Core.Path.{_≡_, refl, sym, ap, _∙_, subst}
 use mathlib.Core.Bool.{not}
 use mathlib.Core.List.{List, [], _∷_, _++_}
-use Prim.Native.Nat.{ℕ, _+_, _-_, _/_, _^_, _≤_, _<_}
+use Prim.Native.Nat.{ℕ, _+_, _^_, _≤_, _<_}
 use native.Mathlib.Omega.{arith}
-use borrow.Author.Tests.{ne-eqb, lt-ltb, le-leb, ltb-true, ltb-false}
-use lib.Dec.{ltb}
+use borrow.Author.Tests.{ne-eqb, lt-ltb, le-leb, ltb-true}
 use lib.ListN.{length}
 use Rattle.number.specs.Bytes.{Bytes}
-use Rattle.number.specs.Encode.{encode, widthOf}
-use Rattle.number.proofs.Choice.{either}
-use Rattle.number.proofs.Encode.{width-one, width-more, width-bounds}
-use Rattle.field.specs.Sheet.{got, _>>=_, _>>_, times}
+use Rattle.number.specs.Encode.{encode}
+use Rattle.number.proofs.Encode.{width-bounds}
+use Rattle.field.specs.Sheet.{got, _>>=_, times}
 use Rattle.field.specs.Field.{whole}
-use Rattle.field.specs.Put.{spellAll}
+use Rattle.field.proofs.Spell.{width-two}
+use Rattle.field.specs.Put.{spellAll, openingBytes}
 use Rattle.field.specs.Send.{sheet}
-use Rattle.field.proofs.Read.{Reads, reads-bind, reads-then, reads-pure, reads-require, reads-tested, reads-checked, reads-number, reads-exactly, reads-tenancy, reads-inside, reads-whole}
-use Rattle.field.proofs.Spelt.{Spelt, spelt-join, spelt-whole, number-spelt, exactly-spelt, tenancy-spelt, inside-spelt}
+use Rattle.field.proofs.Read.{Reads, reads-bind, reads-then, reads-pure, reads-require, reads-tested, reads-checked, reads-number, reads-inside, reads-whole}
+use Rattle.field.proofs.Spelt.{Spelt, spelt-join, spelt-whole, number-spelt, inside-spelt}
+use Rattle.field.proofs.Opened.{reads-opening, opening-spelt}
 use Rattle.field.specs.Lists.{All, Rises}
 use Rattle.field.proofs.Lists.{reads-times, reads-climb, times-spelt, climb-spelt}
 use Rattle.request.specs.Disks.{maskOf, disksOf}
@@ -57,10 +57,8 @@ module _ (n : ℕ) (known : n ≡ 0 → ⊥) (within : n ≤ 64) where
   reads-heading : (unit t q : ℕ) → unit < 2 ^ 32 → t < 2 ^ 32 → 0 < t → q ≤ 1024 → Reads (heading unit t n) (headingBytes unit t q) q
   unfolding heading headingBytes
   reads-heading unit t q hu ht pt hq =
-      reads-then (reads-exactly 2 3 (omega arith))
-      (reads-then (reads-exactly unit 4 hu)
-      (reads-then (reads-tenancy t pt ht)
-      (reads-tested (reads-require 10 (lt-ltb 0 n (omega (arith, known)))) (reads-inside 0 1024 q (omega arith) hq (omega arith)))))
+      reads-then (reads-opening 2 unit t (omega arith) hu pt ht)
+      (reads-tested (reads-require 10 (lt-ltb 0 n (omega (arith, known)))) (reads-inside 0 1024 q (omega arith) hq (omega arith)))
 
 pub read-written : (unit t n : ℕ) (ms bs : List ℕ) → unit < 2 ^ 32 → t < 2 ^ 32 → requestDraft unit t n ms ≡ sheet bs → requestSheet unit t n bs 0 ≡ got ms (length bs)
 unfolding requestSheet requestBytes
@@ -88,14 +86,9 @@ module _ (s : List ℕ) (bytes : Bytes s) (n : ℕ) (known : n ≡ 0 → ⊥) (w
   heading-spelt : (unit t q e : ℕ) → Headed unit t n s q e → Spelt s 0 e (headingBytes unit t q) × (0 < t) × (q ≤ 1024)
   unfolding headingBytes
   heading-spelt unit t q e h =
-      let f : Spelt s 0 (h .a) (encode (h .kind)) × (h .kind ≡ 2) = exactly-spelt s 0 (h .kind) (h .a) bytes 2 3 (h .first) in
-      let g : Spelt s (h .a) (h .b) (encode (h .num)) × (h .num ≡ unit) = exactly-spelt s (h .a) (h .num) (h .b) bytes unit 4 (h .second) in
-      let i : Spelt s (h .b) (h .c) (encode (h .lease)) × (h .lease ≡ t) × (0 < h .lease) = tenancy-spelt s (h .b) (h .lease) (h .c) bytes t (h .third) in
-      let j : Spelt s (h .c) e (encode q) × (0 ≤ q) × (q ≤ 1024) = inside-spelt s (h .c) q e bytes 0 1024 (h .last) in
-      let a : Spelt s 0 (h .a) (encode 2) = subst (λ (k : ℕ). Spelt s 0 (h .a) (encode k)) (f .1) (f .0) in
-      let b : Spelt s (h .a) (h .b) (encode unit) = subst (λ (k : ℕ). Spelt s (h .a) (h .b) (encode k)) (g .1) (g .0) in
-      let c : Spelt s (h .b) (h .c) (encode t) = subst (λ (k : ℕ). Spelt s (h .b) (h .c) (encode k)) (i .1) (i .0) in
-      (spelt-join a (spelt-join b (spelt-join c (j .0))), omega (arith, i .1, i .2), j .2)
+      let f : Spelt s 0 (h .mid) (openingBytes 2 unit t) × (0 < t) = opening-spelt 2 unit t s bytes 0 (h .lease) (h .mid) (h .first) in
+      let g : Spelt s (h .mid) e (encode q) × (0 ≤ q) × (q ≤ 1024) = inside-spelt s (h .mid) q e bytes 0 1024 (h .last) in
+      (spelt-join (f .0) (g .0), f .1, g .2)
 
 pub write-read : (unit t n : ℕ) (s ms : List ℕ) (e : ℕ) → Bytes s → n ≤ 64 → requestSheet unit t n s 0 ≡ got ms e → requestDraft unit t n ms ≡ sheet s
 unfolding requestBytes
@@ -109,13 +102,6 @@ write-read unit t n s ms e b l h =
 
 -- ---- the longest request
 
--- a block count takes two bytes at the most
-count-width : (q : ℕ) → q ≤ 1024 → widthOf q ≤ 2
-count-width q h =
-    either (ltb q 128)
-    (λ t. omega (arith, width-one q (ltb-true q 128 t)))
-    (λ f. let l : 128 ≤ q = ltb-false q 128 f in omega (arith, width-more q l (omega arith), width-one (q / 128) (omega arith)))
-
 pub longest-written : (unit t n : ℕ) (ms bs : List ℕ) → requestDraft unit t n ms ≡ sheet bs → length bs ≤ 9229
 longest-written unit t n ms bs h =
     let d : Drafted unit t n ms bs = drafted unit t n ms bs h in
@@ -125,7 +111,7 @@ longest-written unit t n ms bs h =
       request-length unit t ms refl refl refl (record { count = d .count; bytes = refl; small = blocks-bound n ms (d .blocks) }),
       width-bounds unit,
       width-bounds t,
-      count-width (length ms) (d .count),
+      width-two (length ms) (omega (arith, d .count)),
       blocks-bound n ms (d .blocks),
       d .count,
     )

@@ -1,44 +1,26 @@
 -- Laws of writing a request.
---     put-head                                            the fields before the blocks
 --     disks-in, disks-out                                 one place more of a number of copies
 --     disk-in, disk-out                                   the loop over the disks of a block
 --     block-length, block-put                             the bytes of a block
 --     blocks-room, blocks-more                            the loop over the blocks
 use mathlib.Core.Path.{_≡_, refl, sym, ap, _∙_, subst}
 use mathlib.Core.Bool.{Bool, true, false}
-use mathlib.Core.List.{List, [], _∷_, _++_, append-assoc, append-nil}
+use mathlib.Core.List.{List, [], _∷_, _++_, append-nil}
 use Prim.Native.Nat.{ℕ, zero, suc, _+_, _-_, _≤_, _<_}
 use native.Mathlib.Omega.{arith}
 use lib.ListN.{length, take, drop, getD, length-append}
-use lib.Seq.{length-take-le, drop-drop, take-at, drop-append-add, take-suc, take-length, split-at}
+use lib.Seq.{take-length, split-at}
 use Rattle.number.specs.Encode.{encode, widthOf}
 use Rattle.number.proofs.Choice.{pick-true, pick-false, either}
 use Rattle.number.proofs.Encode.{width-one}
 use Rattle.mask.specs.Has.{has}
 use Rattle.mask.specs.Count.{bit, members}
 use Rattle.mask.proofs.Members.{members-le}
-use Rattle.field.specs.Put.{spellAll, paste, Put, Written}
-use Rattle.field.proofs.Puts.{written-none, written-more, written-length, written-join, put-one}
+use Rattle.field.specs.Put.{spellAll, Put, Written}
+use Rattle.field.proofs.Puts.{written-more, written-length, written-join, put-one}
 use Rattle.field.proofs.Spell.{spell-append, spell-more}
 use Rattle.request.specs.Disks.{disksBelow, disksOf}
-use Rattle.request.specs.Draft.{blockBytes, headingBytes}
-
--- ---- the fields before the blocks
-
-pub put-head : {unit t q : ℕ} {o o₁ o₂ o₃ o₄ : List ℕ} {a b c d : ℕ} → Put 2 o 0 a o₁ → Put unit o₁ a b o₂ → Put t o₂ b c o₃ → Put q o₃ c d o₄
-    → length (headingBytes unit t q) ≤ length o → Written o 0 (headingBytes unit t q) o₄ d
-unfolding headingBytes widthOf
-put-head {unit} {t} {q} {o} {o₁} {o₂} {o₃} {o₄} {a} {b} {c} {d} f g h i room =
-    let n₁ = length-append (encode 2) (encode unit ++ (encode t ++ encode q)) in
-    let n₂ = length-append (encode unit) (encode t ++ encode q) in
-    let n₃ = length-append (encode t) (encode q) in
-    let w₁ : Written o 0 (encode 2) o₁ a = put-one f (omega arith) in
-    let w₂ : Written o 0 (encode 2 ++ encode unit) o₂ b = written-more w₁ g (omega (arith, w₁ .place)) in
-    let w₃ : Written o 0 ((encode 2 ++ encode unit) ++ encode t) o₃ c = written-more w₂ h (omega (arith, w₂ .place, length-append (encode 2) (encode unit))) in
-    let w₄ : Written o 0 (((encode 2 ++ encode unit) ++ encode t) ++ encode q) o₄ d =
-    written-more w₃ i (omega (arith, w₃ .place, length-append (encode 2 ++ encode unit) (encode t), length-append (encode 2) (encode unit))) in
-    let e : ((encode 2 ++ encode unit) ++ encode t) ++ encode q ≡ encode 2 ++ (encode unit ++ (encode t ++ encode q)) = simp append-assoc in
-    subst (λ (x : List ℕ). Written o 0 x o₄ d) e w₄
+use Rattle.request.specs.Draft.{blockBytes}
 
 -- ---- the disks of a block
 

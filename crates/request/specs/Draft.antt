@@ -11,7 +11,7 @@ use lib.Dec.{eqb, leb, ltb}
 use Rattle.number.specs.Choice.{pick}
 use Rattle.number.specs.Encode.{encode}
 use Rattle.mask.specs.Count.{members}
-use Rattle.field.specs.Put.{spellAll}
+use Rattle.field.specs.Put.{spellAll, openingBytes}
 use Rattle.field.specs.Refusal.{numberOf}
 use Rattle.field.specs.Send.{Draft, sheet, none}
 use Rattle.field.specs.declared.Written.{Written}
@@ -24,7 +24,7 @@ blockBytes m = encode (length (disksOf m)) ++ spellAll encode (disksOf m)
 
 -- kind, unit, tenancy, Q
 unfoldable pub headingBytes : ℕ → ℕ → ℕ → List ℕ
-headingBytes unit t q = encode 2 ++ (encode unit ++ (encode t ++ encode q))
+headingBytes unit t q = openingBytes 2 unit t ++ encode q
 
 -- the heading, then block after block
 unfoldable pub requestBytes : ℕ → ℕ → List ℕ → List ℕ

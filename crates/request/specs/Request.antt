@@ -9,7 +9,7 @@ use mathlib.Core.List.{List}
 use lib.Dec.{eqb, leb, ltb}
 use Rattle.number.specs.Choice.{pick}
 use Rattle.field.specs.Sheet.{Parser, _>>=_, _>>_, pure, require, times}
-use Rattle.field.specs.Field.{number, exactly, tenancy, inside, climb, whole}
+use Rattle.field.specs.Field.{number, opening, inside, climb, whole}
 use Rattle.request.specs.Disks.{maskOf}
 
 -- disks are 0 to N - 1; a number of copies has no bit above 63
@@ -28,9 +28,7 @@ block high = do
 -- kind 2, the unit, its tenancy (no tenancy is 0), settings (N = 0 means none yet), Q
 unfoldable pub heading : ℕ → ℕ → ℕ → Parser ℕ
 heading unit t n = do
-  exactly 2 3
-  exactly unit 4
-  tenancy t
+  opening 2 unit t
   require (ltb 0 n) 10
   inside 0 1024
 

@@ -129,22 +129,14 @@ fn blocks(s: &[u8], at: usize, q: usize, high: u32) -> Request
 fn opening(s: &[u8], unit: u32, tenancy: u32, disks: u32) -> Field
     ensures { λ r. ⌜ told r ≡ heading unit tenancy disks (now (s .entry)) 0 ⌝ }
 {
-    let kind = field::exact(s, 0, 2, Refusal::Kind);
-    let Field::Got(_, a) = kind else {
-        return kind;
-    };
-    let number = field::exact(s, a, unit, Refusal::Unit);
-    let Field::Got(_, b) = number else {
-        return number;
-    };
-    let tenant = field::tenant(s, b, tenancy);
-    let Field::Got(_, c) = tenant else {
-        return tenant;
+    let found = field::opening(s, 2, unit, tenancy);
+    let Field::Got(_, at) = found else {
+        return found;
     };
     if disks == 0 {
         return Field::Refused(Refusal::NoSettings);
     }
-    field::ranged(s, c, 0, 1024)
+    field::ranged(s, at, 0, 1024)
 }
 
 // Reads a request for a unit, its tenancy (0: not rented) and its N (0: no settings yet).
@@ -227,10 +219,8 @@ fn put_heading(unit: u32, tenancy: u32, q: u32, out: &mut [u8]) -> usize
     requires { ⌜ length (headingBytes unit tenancy q) ≤ length (now out) ⌝ }
     ensures { λ r. ⌜ Wrote (now (out .entry)) 0 (headingBytes unit tenancy q) (now (out .exit)) r ⌝ }
 {
-    let a = field::put(2, out, 0);
-    let b = field::put(unit, out, a);
-    let c = field::put(tenancy, out, b);
-    field::put(q, out, c)
+    let at = field::put_opening(2, unit, tenancy, out);
+    field::put(q, out, at)
 }
 
 // Writes a request whose blocks take n bytes and can all be sent; the length is found first.

@@ -11,10 +11,12 @@ use Prim.Native.Nat.{ℕ, zero, suc, _+_, _-_, _≤_, _<_}
 use native.Mathlib.Omega.{arith}
 use lib.ListN.{length, getD, replicate, length-append, length-replicate, List·getD-append}
 use lib.Seq.{getD-append-add}
-use Rattle.field.specs.Sheet.{Out, got, refused, _>>=_, _>>_, pure, times}
-use Rattle.field.specs.Field.{exactly, tenancy, inside}
+use Rattle.field.specs.Sheet.{Out, got, refused, _>>=_, pure, times}
+use Rattle.field.specs.Field.{opening, tenancy, inside}
 use Rattle.field.proofs.Sheet.{Step, bind-got, after-got, pure-got}
-use Rattle.field.proofs.Spelt.{whole-got}
+use Rattle.field.proofs.Whole.{whole-got}
+use Rattle.field.proofs.Opened.{Opened, opening-steps}
+use Rattle.field.specs.Lists.{All}
 use Rattle.settings.specs.declared.Row.{Row}
 use Rattle.settings.specs.declared.Settings.{Settings}
 use Rattle.settings.specs.declared.Table.{Table}
@@ -23,7 +25,7 @@ use Rattle.settings.specs.Table.{padded, table, noTable, Filled}
 use Rattle.settings.specs.Sheet.{fields, settingsSheet}
 use Rattle.settings.specs.Told.{tableOf, Told}
 use Rattle.settings.proofs.Ranges.{range-in, both, paired}
-use Rattle.field.proofs.Values.{inside-range}
+use Rattle.field.proofs.Values.{inside-range, times-all}
 
 -- ---- the fields of a row
 
@@ -62,33 +64,26 @@ row-good s at r e h =
     })
 
 -- so are n of them
+pub rows-all : (rs : List Row) → All (λ r. inRange r ≡ true) rs → allInRange rs ≡ true
+unfolding All allInRange
+rows-all [] h = refl
+rows-all (r ∷ rs) h = paired (h .0) (rows-all rs (h .1))
+
 rows-good : (s : List ℕ) (n at : ℕ) (rs : List Row) (e : ℕ) → times n row s at ≡ got rs e → (length rs ≡ n) × (allInRange rs ≡ true)
-unfolding times allInRange
-rows-good s zero at rs e h =
-    let p : ([] ≡ rs) × (at ≡ e) = pure-got [] rs s at e h in
-    subst (λ (x : List Row). (length x ≡ 0) × (allInRange x ≡ true)) (p .0) (refl, refl)
-rows-good s (suc n) at rs e h =
-    let u : Step (row s at) (λ r m. (times n row >>= λ more. pure (r ∷ more)) s m) rs e = bind-got row s at rs e _ h in
-    let v : Step (times n row s (u .mid)) (λ more m. pure (u .found ∷ more) s m) rs e = bind-got (times n row) s (u .mid) rs e _ (u .last) in
-    let p : (u .found ∷ v .found ≡ rs) × (v .mid ≡ e) = pure-got _ _ s _ _ (v .last) in
-    let g : (length (v .found) ≡ n) × (allInRange (v .found) ≡ true) = rows-good s n (u .mid) (v .found) (v .mid) (v .first) in
-    subst (λ (x : List Row). (length x ≡ suc n) × (allInRange x ≡ true)) (p .0)
-    (ap suc (g .0), paired (row-good s at (u .found) (u .mid) (u .first)) (g .1))
+rows-good s n at rs e h =
+    let w : (length rs ≡ n) × All (λ r. inRange r ≡ true) rs = times-all row (λ r. inRange r ≡ true) s (row-good s) n at rs e h in
+    (w .0, rows-all rs (w .1))
 
 -- ---- the fields of a sheet
 
 pub record SheetGot (unit t : ℕ) (s : List ℕ) (T : Table) (e : ℕ) : Type 0 where
-  pub kind : ℕ
-  pub number : ℕ
   pub tenant : ℕ
   pub disks : ℕ
   pub rows : List Row
-  pub second : ℕ
   pub third : ℕ
   pub fourth : ℕ
   pub fifth : ℕ
-  pub kind-got : exactly 1 3 s 0 ≡ got kind second
-  pub unit-got : exactly unit 4 s second ≡ got number third
+  pub opening-got : opening 1 unit t s 0 ≡ got tenant fourth
   pub tenancy-got : tenancy t s third ≡ got tenant fourth
   pub disks-got : inside 1 64 s fourth ≡ got disks fifth
   pub rows-got : times disks row s fifth ≡ got rows e
@@ -99,25 +94,20 @@ pub sheet-steps : (unit t : ℕ) (s : List ℕ) (T : Table) (e : ℕ) → settin
 unfolding settingsSheet fields
 sheet-steps unit t s T e h =
     let g : (fields unit t s 0 ≡ got T e) × (e ≡ length s) = whole-got (fields unit t) s T e h in
-    let a : Step (exactly 1 3 s 0) (λ _ n. (exactly unit 4 >> (tenancy t >> (inside 1 64 >>= λ n. times n row >>= λ rows. pure (table n rows)))) s n) T e = after-got (exactly 1 3) s 0 T e _ (g .0) in
-    let b : Step (exactly unit 4 s (a .mid)) (λ _ n. (tenancy t >> (inside 1 64 >>= λ n. times n row >>= λ rows. pure (table n rows))) s n) T e = after-got (exactly unit 4) s (a .mid) T e _ (a .last) in
-    let d : Step (tenancy t s (b .mid)) (λ _ n. (inside 1 64 >>= λ n. times n row >>= λ rows. pure (table n rows)) s n) T e = after-got (tenancy t) s (b .mid) T e _ (b .last) in
+    let d : Step (opening 1 unit t s 0) (λ _ n. (inside 1 64 >>= λ n. times n row >>= λ rows. pure (table n rows)) s n) T e = after-got (opening 1 unit t) s 0 T e _ (g .0) in
+    let o : Opened 1 unit t s 0 (d .found) (d .mid) = opening-steps 1 unit t s 0 (d .found) (d .mid) (d .first) in
     let f : Step (inside 1 64 s (d .mid)) (λ n m. (times n row >>= λ rows. pure (table n rows)) s m) T e = bind-got (inside 1 64) s (d .mid) T e _ (d .last) in
     let k : Step (times (f .found) row s (f .mid)) (λ rows m. pure (table (f .found) rows) s m) T e = bind-got (times (f .found) row) s (f .mid) T e _ (f .last) in
     let p : (table (f .found) (k .found) ≡ T) × (k .mid ≡ e) = pure-got _ _ s _ _ (k .last) in
     record {
-      kind = a .found;
-      number = b .found;
       tenant = d .found;
       disks = f .found;
       rows = k .found;
-      second = a .mid;
-      third = b .mid;
+      third = o .third;
       fourth = d .mid;
       fifth = f .mid;
-      kind-got = a .first;
-      unit-got = b .first;
-      tenancy-got = d .first;
+      opening-got = d .first;
+      tenancy-got = o .tenancy-got;
       disks-got = f .first;
       rows-got = k .first ∙ ap (got (k .found)) (p .1);
       is = p .0;

@@ -1,26 +1,23 @@
 -- Laws of the reader.
 --     row-got, row-first, row-second, row-third               a row, and the fields at which it may stop
---     heading-got, heading-kind, heading-unit, heading-tenancy     the same of the fields before the rows
+--     heading-got, heading-stops                              the same of the fields before the rows
 --     heading-disks                                           what is known of N there
---     sheet-split                                             a sheet is its heading, then its rows and its end
+--     fields-split                                            a sheet is its heading, then its rows
 --     Rows, rows-start, rows-step, rows-stop, rows-told       the loop over the rows
 --     told-none, read-told, read-stops                        how the reader ends
 --     told-accepted, told-refusal                             what its answer says of the sheet
 use mathlib.Core.Path.{_≡_, refl, sym, ap, _∙_, subst}
-use mathlib.Core.Bool.{true}
 use mathlib.Core.List.{List, [], _∷_, _++_, append-assoc}
 use Prim.Native.Nat.{ℕ, suc, _+_, _-_, _≤_, _<_}
 use native.Mathlib.Omega.{arith}
-use borrow.Author.Tests.{eqb-true, leb-true}
-use lib.Dec.{eqb, leb}
 use lib.ListN.{length, set, replicate, length-append}
 use lib.Seq.{set-at}
-use Rattle.number.proofs.Choice.{pick-true, pick-false, either}
 use Rattle.field.specs.declared.Refusal.{Refusal}
 use Rattle.field.specs.Refusal.{numberOf}
-use Rattle.field.specs.Sheet.{Out, got, refused, Parser, andThen, _>>=_, _>>_, pure, require, times}
-use Rattle.field.specs.Field.{number, exactly, tenancy, inside, end, whole}
-use Rattle.field.proofs.Sheet.{next, then, stops, halts, Step, bind-got, after-got, passed, pure-got}
+use Rattle.field.specs.Sheet.{Out, got, refused, _>>=_, pure, times}
+use Rattle.field.specs.Field.{opening, inside, end, whole}
+use Rattle.field.proofs.Sheet.{next, then, stops, halts, then-bind, Step, after-got}
+use Rattle.field.proofs.Whole.{whole-as, whole-refused, end-place}
 use Rattle.field.proofs.Values.{inside-range}
 use Rattle.field.proofs.Lists.{prefix, times-start, times-step, times-stop, times-done}
 use Rattle.settings.specs.declared.Answer.the-variants.{Accepted, Refused}
@@ -65,79 +62,29 @@ module _ (s : List ℕ) (at : ℕ) where
     unfolding row pure
     row-got {b = b} g h = next (inside 1 1000000) _ s at f ∙ next (inside 0 100000000) _ s a g ∙ next (inside 0 1000000) _ s b h
 
-  -- ---- the fields before the rows
+-- ---- the fields before the rows
 
-  module _ (unit t : ℕ) where
-    pub heading-kind : {m : ℕ} → exactly 1 3 s at ≡ refused m → heading unit t s at ≡ refused m
-    unfolding heading
-    heading-kind f = halts (exactly 1 3) _ s at f
+module _ (unit t : ℕ) (s : List ℕ) (at : ℕ) where
+  pub heading-stops : {m : ℕ} → opening 1 unit t s at ≡ refused m → heading unit t s at ≡ refused m
+  unfolding heading
+  heading-stops f = halts (opening 1 unit t) _ s at f
 
-    module _ {x a : ℕ} (f : exactly 1 3 s at ≡ got x a) where
-      pub heading-unit : {m : ℕ} → exactly unit 4 s a ≡ refused m → heading unit t s at ≡ refused m
-      unfolding heading
-      heading-unit g = then (exactly 1 3) _ s at f ∙ halts (exactly unit 4) _ s a g
-
-      pub heading-tenancy : {y b m : ℕ} → exactly unit 4 s a ≡ got y b → tenancy t s b ≡ refused m → heading unit t s at ≡ refused m
-      unfolding heading
-      heading-tenancy {b = b} g h = then (exactly 1 3) _ s at f ∙ then (exactly unit 4) _ s a g ∙ halts (tenancy t) _ s b h
-
-      pub heading-got : {y b z d : ℕ} → exactly unit 4 s a ≡ got y b → tenancy t s b ≡ got z d → heading unit t s at ≡ inside 1 64 s d
-      unfolding heading
-      heading-got {b = b} g h = then (exactly 1 3) _ s at f ∙ then (exactly unit 4) _ s a g ∙ then (tenancy t) _ s b h
+  pub heading-got : {v e : ℕ} → opening 1 unit t s at ≡ got v e → heading unit t s at ≡ inside 1 64 s e
+  unfolding heading
+  heading-got f = then (opening 1 unit t) _ s at f
 
 -- N is at most 64
 pub heading-disks : (unit t : ℕ) (s : List ℕ) (at n e : ℕ) → heading unit t s at ≡ got n e → n ≤ 64
 unfolding heading
 heading-disks unit t s at n e h =
-    let w : Step (exactly 1 3 s at) (λ _ m. (exactly unit 4 >> (tenancy t >> inside 1 64)) s m) n e = after-got (exactly 1 3) s at n e _ h in
-    let u : Step (exactly unit 4 s (w .mid)) (λ _ m. (tenancy t >> inside 1 64) s m) n e = after-got (exactly unit 4) s (w .mid) n e _ (w .last) in
-    let v : Step (tenancy t s (u .mid)) (λ _ m. inside 1 64 s m) n e = after-got (tenancy t) s (u .mid) n e _ (u .last) in
-    inside-range s (v .mid) 1 64 n e (v .last) .1
+    let w : Step (opening 1 unit t s at) (λ _ m. inside 1 64 s m) n e = after-got (opening 1 unit t) s at n e (inside 1 64) h in
+    inside-range s (w .mid) 1 64 n e (w .last) .1
 
 -- ---- a sheet is its heading, then its rows and its end
 
-module _ {A B C : Type 0} where
-  bind-out : (o : Out A) (f : A → ℕ → Out B) (g : B → ℕ → Out C) → andThen (andThen o f) g ≡ andThen o (λ a n. andThen (f a n) g)
-  unfolding andThen
-  bind-out (got a n) f g = refl
-  bind-out (refused m) f g = refl
-
-  bind-bind : (p : Parser A) (f : A → Parser B) (g : B → Parser C) (s : List ℕ) (at : ℕ) → ((p >>= f) >>= g) s at ≡ (p >>= λ a. f a >>= g) s at
-  unfolding _>>=_
-  bind-bind p f g s at = bind-out (p s at) _ _
-
-  then-bind : (p : Parser A) (q : Parser B) (g : B → Parser C) (s : List ℕ) (at : ℕ) → ((p >> q) >>= g) s at ≡ (p >> (q >>= g)) s at
-  unfolding _>>=_ _>>_
-  then-bind p q g s at = bind-out (p s at) _ _
-
-module _ {A B : Type 0} where
-  same-out : (o : Out A) (f g : ℕ → Out B) → ((n : ℕ) → f n ≡ g n) → andThen o (λ _ n. f n) ≡ andThen o (λ _ n. g n)
-  unfolding andThen
-  same-out (got a n) f g h = h n
-  same-out (refused m) f g h = refl
-
-  same-then : (p : Parser A) (q r : Parser B) (s : List ℕ) → ((n : ℕ) → q s n ≡ r s n) → (at : ℕ) → (p >> q) s at ≡ (p >> r) s at
-  unfolding _>>_
-  same-then p q r s h at = same-out (p s at) (q s) (r s) h
-
-module _ (unit t : ℕ) (s : List ℕ) where
-  regrouped : {A : Type 0} (k : ℕ → Parser A) (at : ℕ) → (heading unit t >>= k) s at ≡ (exactly 1 3 >> (exactly unit 4 >> (tenancy t >> (inside 1 64 >>= k)))) s at
-  unfolding heading
-  regrouped k at =
-      then-bind (exactly 1 3) _ k s at
-      ∙ same-then (exactly 1 3) _ _ s (λ n. then-bind (exactly unit 4) _ k s n ∙ same-then (exactly unit 4) _ _ s (λ m. then-bind (tenancy t) _ k s m) n) at
-
-  pub sheet-split : (at : ℕ) → settingsSheet unit t s at ≡ (heading unit t >>= λ n. whole (rowsTable n)) s at
-  unfolding settingsSheet fields whole rowsTable _>>=_ andThen
-  sheet-split at = ap (λ o. andThen o (λ a n. (end >> pure a) s n)) (sym (regrouped (λ n. times n row >>= λ rows. pure (table n rows)) at)) ∙ bind-bind (heading unit t) (λ n. times n row >>= λ rows. pure (table n rows)) (λ a. end >> pure a) s at
-
--- the place of the end is the length of the sheet
-end-place : (s : List ℕ) (at v e : ℕ) → end s at ≡ got v e → e ≡ length s
-unfolding end
-end-place s at v e h =
-    either (eqb at (length s))
-    (λ t. let g : got 0 at ≡ got v e = sym (pick-true _ _ t) ∙ h in let m : at ≡ e = cc in sym m ∙ eqb-true _ _ t)
-    (λ f. let g : refused 9 ≡ got v e = sym (pick-false _ _ f) ∙ h in absurd (let z : _≡_ {A = ℕ} 0 1 = cc in omega arith))
+fields-split : (unit t : ℕ) (s : List ℕ) (at : ℕ) → fields unit t s at ≡ (heading unit t >>= rowsTable) s at
+unfolding fields heading rowsTable
+fields-split unit t s at = sym (then-bind (opening 1 unit t) (inside 1 64) (λ n. times n row >>= λ rows. pure (table n rows)) s at)
 
 -- ---- the loop over the rows
 
@@ -207,11 +154,13 @@ told-none {n} {o} {r} e h q = record { answer = ap (λ x. toldBy n (x .answer) (
 module _ (unit t : ℕ) (s : List ℕ) where
   -- after its heading a sheet is its rows and its end
   pub read-told : {n e : ℕ} {r : Settings} → heading unit t s 0 ≡ got n e → Told (length s) (whole (rowsTable n) s e) r → Told (length s) (settingsSheet unit t s 0) r
-  read-told {n} {e} {r} h w = subst (λ o. Told (length s) o r) (sym (sheet-split unit t s 0 ∙ next (heading unit t) (λ k. whole (rowsTable k)) s 0 h)) w
+  unfolding settingsSheet
+  read-told {n} {e} {r} h w = subst (λ o. Told (length s) o r) (sym (whole-as (fields unit t) s 0 (rowsTable n) e (fields-split unit t s 0 ∙ next (heading unit t) rowsTable s 0 h))) w
 
   -- a heading that is refused
   pub read-stops : {m : ℕ} → heading unit t s 0 ≡ refused m → settingsSheet unit t s 0 ≡ refused m
-  read-stops h = sheet-split unit t s 0 ∙ stops (heading unit t) (λ k. whole (rowsTable k)) s 0 h
+  unfolding settingsSheet
+  read-stops h = whole-refused (fields unit t) s 0 (fields-split unit t s 0 ∙ stops (heading unit t) rowsTable s 0 h)
 
 -- ---- what the answer says of the sheet
 

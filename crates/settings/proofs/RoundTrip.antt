@@ -5,23 +5,23 @@
 use mathlib.Core.Path.{_≡_, refl, sym, ap, _∙_, subst}
 use mathlib.Core.Bool.{true}
 use mathlib.Core.List.{List, [], _∷_, _++_, append-assoc, map}
-use Prim.Native.Nat.{ℕ, _+_, _-_, _^_, _≤_, _<_}
+use Prim.Native.Nat.{ℕ, _-_, _^_, _≤_, _<_}
 use native.Mathlib.Omega.{arith}
 use borrow.Author.Tests.{lt-ltb, le-leb, eq-eqb}
-use lib.Dec.{leb}
-use lib.ListN.{length, take, drop, replicate, length-map}
+use lib.ListN.{length, take, replicate, length-map}
 use lib.Seq.{take-at}
 use Rattle.number.specs.Bytes.{Bytes}
 use Rattle.number.specs.Encode.{encode}
-use Rattle.number.proofs.Choice.{pick-true, pick-false, either}
+use Rattle.number.proofs.Choice.{pick-true}
 use Rattle.field.specs.declared.Written.{Written}
 use Rattle.field.specs.declared.Written.the-variants.{Length}
-use Rattle.field.specs.Put.{paste, spellAll}
+use Rattle.field.specs.Put.{paste, spellAll, openingBytes}
 use Rattle.field.specs.Send.{sheet, none, toldWritten, answerTo, leftBy, Sent}
 use Rattle.field.specs.Sheet.{got, refused, times}
-use Rattle.field.proofs.Read.{Reads, reads-bind, reads-then, reads-pure, reads-checked, reads-exactly, reads-tenancy, reads-inside, reads-whole}
-use Rattle.field.proofs.Spelt.{Spelt, spelt-join, spelt-whole, exactly-spelt, tenancy-spelt, inside-spelt}
-use Rattle.field.proofs.Sends.{written-injective}
+use Rattle.field.proofs.Read.{Reads, reads-bind, reads-then, reads-pure, reads-checked, reads-inside, reads-whole}
+use Rattle.field.proofs.Spelt.{Spelt, spelt-join, spelt-whole, inside-spelt}
+use Rattle.field.proofs.Opened.{reads-opening, opening-spelt}
+use Rattle.field.proofs.Sends.{sent-bytes, written-injective}
 use Rattle.field.specs.Lists.{All}
 use Rattle.field.proofs.Lists.{reads-times, times-spelt}
 use Rattle.settings.specs.declared.Row.{Row}
@@ -33,7 +33,7 @@ use Rattle.settings.specs.Draft.{rowsOf, headBytes, sheetBytes, even, se
 use Rattle.settings.proofs.Ranges.{InRange, in-range, range-in, both, paired}
 use Rattle.settings.proofs.Rows.{length-rows}
 use Rattle.settings.proofs.Writing.{draft-either, draft-whole}
-use Rattle.settings.proofs.Accepted.{RowGot, row-steps, SheetGot, sheet-steps}
+use Rattle.settings.proofs.Accepted.{RowGot, row-steps, rows-all, SheetGot, sheet-steps}
 
 -- ---- reading what was written
 
@@ -55,28 +55,15 @@ module _ (unit t : ℕ) (rows : List Row) (u : unit < 2 ^ 32) (v : t < 2 ^ 32) (
   unfolding fields sheetBytes headBytes
   reads-fields =
       let r : Reads (times (length rows) row) (spellAll rowBytes rows) rows = reads-times row rowBytes (λ x. inRange x ≡ true) reads-row rows (all-rows rows good) in
-      let b : encode 1 ++ (encode unit ++ (encode t ++ (encode (length rows) ++ spellAll rowBytes rows))) ≡ sheetBytes unit t rows = sym (simp append-assoc) in
+      let b : openingBytes 1 unit t ++ (encode (length rows) ++ spellAll rowBytes rows) ≡ sheetBytes unit t rows = sym (append-assoc (openingBytes 1 unit t) (encode (length rows)) (spellAll rowBytes rows)) in
       subst (λ (x : List ℕ). Reads (fields unit t) x (table (length rows) rows)) b
-      (reads-then (reads-exactly 1 3 (omega arith))
-      (reads-then (reads-exactly unit 4 u)
-      (reads-then (reads-tenancy t rented v)
+      (reads-then (reads-opening 1 unit t (omega arith) u rented v)
       (reads-bind _ (reads-inside 1 64 (length rows) some few (omega arith))
-      (reads-checked _ r (reads-pure (table (length rows) rows)))))))
+      (reads-checked _ r (reads-pure (table (length rows) rows)))))
 
   pub reads-sheet : settingsSheet unit t (sheetBytes unit t rows) 0 ≡ got (table (length rows) rows) (length (sheetBytes unit t rows))
   unfolding settingsSheet
   reads-sheet = reads-whole reads-fields
-
--- the writer left a sheet's bytes
-sent-bytes : (bs out : List ℕ) (n : ℕ) (after : List ℕ) → Sent (sheet bs) out (Length n) after → (n ≡ length bs) × (take n after ≡ bs)
-unfolding toldWritten answerTo leftBy paste
-sent-bytes bs out n after w =
-    either (leb (length bs) (length out))
-    (λ f.
-    let g : got tt n ≡ got tt (length bs) = w .answer ∙ pick-true _ _ f in
-    let m : n ≡ length bs = cc in
-    (m, ap (take n) (w .held ∙ pick-true _ _ f) ∙ take-at bs (drop (0 + length bs) out) n (sym m)))
-    (λ f. let g : got tt n ≡ refused 11 = w .answer ∙ pick-false _ _ f in absurd (let z : _≡_ {A = ℕ} 0 1 = cc in omega arith))
 
 module _ (unit t : ℕ) (cs ls ds : List ℕ) where
   -- the writer was told these costs, loads and delays, and the reader finds them in the table
@@ -104,11 +91,6 @@ row-spelt s b at r e h =
     let g : Spelt s (w .second) (w .third) (encode (r .load)) × (0 ≤ r .load) × (r .load ≤ 100000000) = inside-spelt s (w .second) (r .load) (w .third) b 0 100000000 (w .load) in
     let k : Spelt s (w .third) e (encode (r .delay)) × (0 ≤ r .delay) × (r .delay ≤ 1000000) = inside-spelt s (w .third) (r .delay) e b 0 1000000 (w .delay) in
     (spelt-join (f .0) (spelt-join (g .0) (k .0)), range-in r (record { cost-low = f .1; cost-high = f .2; load-high = g .2; delay-high = k .2 }))
-
-rows-all : (rs : List Row) → All (λ r. inRange r ≡ true) rs → allInRange rs ≡ true
-unfolding All allInRange
-rows-all [] h = refl
-rows-all (r ∷ rs) h = paired (h .0) (rows-all rs (h .1))
 
 -- three lists of rows, put together again
 rows-again : (rs : List Row) → rowsOf (map (λ r. r .cost) rs) (map (λ r. r .load) rs) (map (λ r. r .delay) rs) ≡ rs
@@ -142,21 +124,15 @@ pub write-accepted : (unit t : ℕ) (s : List ℕ) (T : Table) (e : ℕ) → Byt
 unfolding sheetBytes headBytes
 write-accepted unit t s T e b h =
     let w : SheetGot unit t s T e = sheet-steps unit t s T e h in
-    let k : Spelt s 0 (w .second) (encode (w .kind)) × (w .kind ≡ 1) = exactly-spelt s 0 (w .kind) (w .second) b 1 3 (w .kind-got) in
-    let u : Spelt s (w .second) (w .third) (encode (w .number)) × (w .number ≡ unit) = exactly-spelt s (w .second) (w .number) (w .third) b unit 4 (w .unit-got) in
-    let v : Spelt s (w .third) (w .fourth) (encode (w .tenant)) × (w .tenant ≡ t) × (0 < w .tenant) = tenancy-spelt s (w .third) (w .tenant) (w .fourth) b t (w .tenancy-got) in
+    let o : Spelt s 0 (w .fourth) (openingBytes 1 unit t) × (0 < t) = opening-spelt 1 unit t s b 0 (w .tenant) (w .fourth) (w .opening-got) in
     let n : Spelt s (w .fourth) (w .fifth) (encode (w .disks)) × (1 ≤ w .disks) × (w .disks ≤ 64) = inside-spelt s (w .fourth) (w .disks) (w .fifth) b 1 64 (w .disks-got) in
     let r : Spelt s (w .fifth) e (spellAll rowBytes (w .rows)) × (length (w .rows) ≡ w .disks) × All (λ x. inRange x ≡ true) (w .rows) =
     times-spelt row rowBytes (λ x. inRange x ≡ true) s (row-spelt s b) (w .disks) (w .fifth) (w .rows) e (n .0 .within) (w .rows-got) in
-    let all : s ≡ (encode (w .kind) ++ (encode (w .number) ++ (encode (w .tenant) ++ encode (w .disks)))) ++ spellAll rowBytes (w .rows) =
-    spelt-whole s e _ (w .long) (spelt-join (spelt-join (k .0) (spelt-join (u .0) (spelt-join (v .0) (n .0)))) (r .0)) in
     let same : s ≡ sheetBytes unit t (w .rows) =
-    all ∙ ap (λ x. (encode x ++ (encode (w .number) ++ (encode (w .tenant) ++ encode (w .disks)))) ++ spellAll rowBytes (w .rows)) (k .1)
-    ∙ ap (λ x. (encode 1 ++ (encode x ++ (encode (w .tenant) ++ encode (w .disks)))) ++ spellAll rowBytes (w .rows)) (u .1)
-    ∙ ap (λ x. (encode 1 ++ (encode unit ++ (encode x ++ encode (w .disks)))) ++ spellAll rowBytes (w .rows)) (v .1)
-    ∙ ap (λ x. (encode 1 ++ (encode unit ++ (encode t ++ encode x))) ++ spellAll rowBytes (w .rows)) (sym (r .1)) in
+    spelt-whole s e _ (w .long) (spelt-join (spelt-join (o .0) (n .0)) (r .0))
+    ∙ ap (λ x. (openingBytes 1 unit t ++ encode x) ++ spellAll rowBytes (w .rows)) (sym (r .1)) in
     ap (λ x. settingsDraft unit t (costs x) (loads x) (delays x)) (sym (w .is))
-    ∙ draft-rows unit t (w .disks) (w .rows) (omega (arith, v .1, v .2)) (n .1) (n .2) (r .1) (rows-all (w .rows) (r .2))
+    ∙ draft-rows unit t (w .disks) (w .rows) (o .1) (n .1) (n .2) (r .1) (rows-all (w .rows) (r .2))
     ∙ ap sheet (sym same)
 
 -- with room for it, the writer leaves the same bytes

@@ -1,5 +1,4 @@
 -- Laws of the writer.
---     put-three, put-four              a row, and the fields before the rows
 --     RowsPut, puts-start, puts-room, puts-step, puts-done      the loop over the rows
 --     sheet-length                     the length of a sheet by its parts
 --     draft-refused, draft-out, draft-whole, Sheeted, draft-none, draft-sheet     what the width of a draft says
@@ -7,22 +6,23 @@
 --     write-none, write-long, write-done     the three ways in which it ends
 use mathlib.Core.Path.{_≡_, refl, sym, ap, _∙_, subst}
 use mathlib.Core.Bool.{true, false, _&&_}
-use mathlib.Core.List.{List, _++_, append-assoc}
-use Prim.Native.Nat.{ℕ, _+_, _-_, _≤_, _<_}
+use mathlib.Core.List.{List, _++_}
+use Prim.Native.Nat.{ℕ, _+_, _≤_, _<_}
 use native.Mathlib.Omega.{arith}
 use borrow.Author.Tests.{eqb-true, leb-true, ltb-true, eq-eqb, ne-eqb, le-leb, lt-leb, le-ltb, lt-ltb}
 use lib.Dec.{eqb, leb, ltb}
-use lib.ListN.{length, take, drop, getD, length-append}
-use lib.Seq.{length-take-le, take-at, drop-append-add, drop-drop, take-all}
+use lib.ListN.{length, take, getD, length-append}
+use lib.Seq.{take-all}
 use Rattle.number.specs.Encode.{encode, widthOf}
 use Rattle.number.proofs.Choice.{pick-true, pick-false, pick-elim, either}
 use Rattle.number.proofs.Encode.{width-one}
-use Rattle.field.specs.Put.{paste, spellAll, Put, Written}
+use Rattle.field.specs.Put.{spellAll, openingBytes, Written}
 use Rattle.field.specs.declared.Refusal.the-variants.{Range, NoRoom}
 use Rattle.field.specs.declared.Written.the-variants.{Length, Refused}
 use Rattle.field.specs.Refusal.{numberOf}
 use Rattle.field.specs.Send.{sheet, none, Sent}
-use Rattle.field.proofs.Puts.{length-paste, written-none, written-more, written-length, written-join, put-one}
+use Rattle.field.proofs.Puts.{written-none, written-length, written-join}
+use Rattle.field.proofs.Opened.{opening-length}
 use Rattle.field.proofs.Sends.{sent-refused, sent-long, sent-fits}
 use Rattle.settings.specs.declared.Row.{Row}
 use Rattle.settings.specs.Row.{disk, allInRange, rowBytes}
@@ -31,23 +31,6 @@ use Rattle.settings.specs.Parts.{rowsWidth, draftWidth}
 use Rattle.settings.proofs.Ranges.{both, paired}
 use Rattle.field.proofs.Spell.{spell-more}
 use Rattle.settings.proofs.Rows.{length-rows, spell-part, no-and, rows-sized, rows-out}
-
--- a field before what follows it
-put-then : {v : ℕ} {out : List ℕ} {at p : ℕ} {mid cs after : List ℕ} {next : ℕ} → Put v out at p mid → at + length (encode v ++ cs) ≤ length out → ((p + length cs ≤ length mid) → Written mid p cs after next) → Written out at (encode v ++ cs) after next
-unfolding widthOf
-put-then {v} {out} {at} {p} {mid} {cs} f h k =
-    let w : Written out at (encode v) mid p = put-one f (omega (arith, length-append (encode v) cs)) in
-    written-join w (k (omega (arith, length-append (encode v) cs, w .place, written-length w)))
-
--- a row
-pub put-three : {a b d : ℕ} {out x y z : List ℕ} {at p q next : ℕ} → Put a out at p x → Put b x p q y → Put d y q next z → at + length (rowBytes (disk a b d)) ≤ length out → Written out at (rowBytes (disk a b d)) z next
-unfolding rowBytes widthOf
-put-three f g h l = put-then f l (λ m. put-then g m (λ k. put-one h k))
-
--- the fields before the rows
-pub put-four : {a b d : ℕ} {out w x y z : List ℕ} {p q r next : ℕ} → Put 1 out 0 p w → Put a w p q x → Put b x q r y → Put d y r next z → length (headBytes a b d) ≤ length out → Written out 0 (headBytes a b d) z next
-unfolding headBytes widthOf
-put-four f g h i l = put-then f (omega arith) (λ m. put-then g m (λ k. put-then h k (λ j. put-one i j)))
 
 -- ---- the loop over the rows
 
@@ -80,8 +63,7 @@ module _ {rows : List Row} {out : List ℕ} {start : ℕ} {mid : List ℕ} {p i 
 
 pub head-length : (unit t n : ℕ) → n < 128 → length (headBytes unit t n) ≡ 2 + widthOf unit + widthOf t
 unfolding headBytes widthOf
-head-length unit t n h =
-    omega (arith, length-append (encode 1) (encode unit ++ (encode t ++ encode n)), length-append (encode unit) (encode t ++ encode n), length-append (encode t) (encode n), width-one 1 (omega arith), width-one n h)
+head-length unit t n h = omega (arith, length-append (openingBytes 1 unit t) (encode n), opening-length 1 unit t, width-one 1 (omega arith), width-one n h)
 
 pub sheet-length : (unit t : ℕ) (rows : List Row) → length rows < 128 → length (sheetBytes unit t rows) ≡ 2 + widthOf unit + widthOf t + length (spellAll rowBytes rows)
 unfolding sheetBytes

@@ -6,7 +6,7 @@ use lib.ListN.{length}
 use lib.Dec.{eqb, leb, ltb}
 use Rattle.number.specs.Choice.{pick}
 use Rattle.number.specs.Encode.{encode}
-use Rattle.field.specs.Put.{spellAll}
+use Rattle.field.specs.Put.{spellAll, openingBytes}
 use Rattle.field.specs.Send.{Draft, sheet, none}
 use Rattle.settings.specs.declared.Row.{Row}
 use Rattle.settings.specs.Row.{disk, allInRange, rowBytes}
@@ -20,7 +20,7 @@ rowsOf (c ∷ cs) (l ∷ ls) (d ∷ ds) = disk c l d ∷ rowsOf cs ls ds
 
 -- the bytes of the fields before the rows
 unfoldable pub headBytes : ℕ → ℕ → ℕ → List ℕ
-headBytes unit t n = encode 1 ++ (encode unit ++ (encode t ++ encode n))
+headBytes unit t n = openingBytes 1 unit t ++ encode n
 
 -- the bytes of a sheet
 unfoldable pub sheetBytes : ℕ → ℕ → List Row → List ℕ

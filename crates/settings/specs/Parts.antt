@@ -7,7 +7,7 @@ use Rattle.field.specs.Put.{spellAll}
 use Rattle.field.specs.Refusal.{numberOf}
 use Rattle.field.specs.Send.{Draft, sheet, none}
 use Rattle.field.specs.Sheet.{Out, got, refused, Parser, _>>=_, _>>_, pure, times}
-use Rattle.field.specs.Field.{exactly, tenancy, inside}
+use Rattle.field.specs.Field.{opening, inside}
 use Rattle.settings.specs.declared.Answer.the-variants.{Refused}
 use Rattle.field.specs.declared.Refusal.{Refusal}
 use Rattle.settings.specs.declared.Row.{Row}
@@ -31,9 +31,7 @@ toldRow (Stopped e) = refused (numberOf e)
 -- the fields before the rows: kind, unit, tenancy, N
 unfoldable pub heading : ℕ → ℕ → Parser ℕ
 heading unit t = do
-  exactly 1 3
-  exactly unit 4
-  tenancy t
+  opening 1 unit t
   inside 1 64
 
 -- the rows of N disks, as a table

@@ -92,14 +92,8 @@ fn row_at(s: &[u8], at: usize) -> RowRead
 fn head(s: &[u8], unit: u32, tenancy: u32) -> Field
     ensures { λ r. ⌜ told r ≡ heading unit tenancy (now (s .entry)) 0 ⌝ }
 {
-    match field::exact(s, 0, 1, Refusal::Kind) {
-        Field::Got(_, second) => match field::exact(s, second, unit, Refusal::Unit) {
-            Field::Got(_, third) => match field::tenant(s, third, tenancy) {
-                Field::Got(_, fourth) => field::ranged(s, fourth, 1, 64),
-                Field::Refused(e) => Field::Refused(e),
-            },
-            Field::Refused(e) => Field::Refused(e),
-        },
+    match field::opening(s, 1, unit, tenancy) {
+        Field::Got(_, at) => field::ranged(s, at, 1, 64),
         Field::Refused(e) => Field::Refused(e),
     }
 }
@@ -213,10 +207,8 @@ fn put_head(unit: u32, tenancy: u32, disks: u32, out: &mut [u8]) -> usize
     requires { ⌜ length (headBytes unit tenancy disks) ≤ length (now out) ⌝ }
     ensures { λ r. ⌜ Put (now (out .entry)) 0 (headBytes unit tenancy disks) (now (out .exit)) r ⌝ }
 {
-    let second = field::put(1, out, 0);
-    let third = field::put(unit, out, second);
-    let fourth = field::put(tenancy, out, third);
-    field::put(disks, out, fourth)
+    let at = field::put_opening(1, unit, tenancy, out);
+    field::put(disks, out, at)
 }
 
 // The bytes of the sheet, or 0 where it is none.

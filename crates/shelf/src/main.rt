@@ -1,9 +1,9 @@
 // The shelf: a unit as a process. It reads the unit's number and then calls to the end of input, and prints a line for each.
-use console::Word;
 use field::Field;
-use field::Refusal;
 use libc::STDIN_FILENO;
 use libc::STDOUT_FILENO;
+use line::Word;
+use service::Turn;
 use unit::Unit;
 ghost use Prim.Native.Nat.{_+_, _≤_};
 ghost use mathlib.Core.Path.{_≡_};
@@ -39,7 +39,7 @@ fn stopped(st: State, n: u32) -> State
     ensures { λ r. ⌜ Sound (r .unit) × (r .have ≡ st .have) ⌝ }
 {
     let mut line = [0u8; 24576];
-    let length = console::say(Word::Stopped(n), &mut line);
+    let length = line::say(Word::Stopped(n), &mut line);
     io::write_all(STDOUT_FILENO, &line[..length]);
     let mut last = st;
     last.going = false;
@@ -77,6 +77,20 @@ fn read_some(buf: &mut [u8], have: usize) -> usize
     io::count(got, &buf[have..])
 }
 
+// The bytes used are gone. A damaged stream uses none: nothing follows it.
+fn rest(unit: Unit, buf: &mut [u8], used: usize, have: usize) -> State
+    requires { ⌜ Sound unit × (have ≤ length (now buf)) ⌝ }
+    ensures { λ r. ⌜ Sound (r .unit) × (r .have ≤ length (now (buf .exit))) ⌝ }
+{
+    let left = shift(buf, used, have);
+    State {
+        unit,
+        have: left,
+        opened: true,
+        going: 0 < used,
+    }
+}
+
 // The unit's number.
 fn open(st: State, buf: &mut [u8]) -> State
     requires { ⌜ Sound (st .unit) × (st .have ≤ length (now buf)) ⌝ }
@@ -84,54 +98,44 @@ fn open(st: State, buf: &mut [u8]) -> State
 {
     let have = st.have;
     match field::any(&buf[..have], 0) {
-        Field::Got(number, used) => {
-            let unit = Unit::new(number);
-            let left = shift(buf, used, have);
-            State {
-                unit,
-                have: left,
-                opened: true,
-                going: true,
+        Field::Got(number, used) => rest(Unit::new(number), buf, used, have),
+        Field::Refused(e) => {
+            if field::number_of(e) == 1 {
+                more(st, buf)
+            } else {
+                stopped(st, 2)
             }
         }
-        Field::Refused(e) => match e {
-            Refusal::Ends => more(st, buf),
-            _ => stopped(st, 2),
-        },
     }
 }
 
-// One call: a line for it, and the bytes it used are gone.
+// One turn, and its line.
+fn turn(u: Unit, s: &[u8]) -> Turn
+    requires { ⌜ Sound u ⌝ }
+    ensures { λ r. ⌜ Sound (r .unit) ⌝ }
+{
+    let mut line = [0u8; 24576];
+    let turn = service::serve(u, s, &mut line);
+    let length = turn.length;
+    io::write_all(STDOUT_FILENO, &line[..length]);
+    turn
+}
+
+// One call; where a turn has no line, it wants more bytes.
 fn call(st: State, buf: &mut [u8]) -> State
     requires { ⌜ Sound (st .unit) × (st .have ≤ length (now buf)) ⌝ }
     ensures { λ r. ⌜ Sound (r .unit) × (r .have ≤ length (now (buf .exit))) ⌝ }
 {
     let have = st.have;
     let u = st.unit;
-    let mut line = [0u8; 24576];
-    let turn = console::serve(u, &buf[..have], &mut line);
-    let used = turn.used;
-    let length = turn.length;
-    let unit = turn.unit;
+    let done = turn(u, &buf[..have]);
+    let length = done.length;
     if length == 0 {
         return more(st, buf);
     }
-    io::write_all(STDOUT_FILENO, &line[..length]);
-    if used == 0 {
-        return State {
-            unit,
-            have,
-            opened: true,
-            going: false,
-        };
-    }
-    let left = shift(buf, used, have);
-    State {
-        unit,
-        have: left,
-        opened: true,
-        going: true,
-    }
+    let unit = done.unit;
+    let used = done.used;
+    rest(unit, buf, used, have)
 }
 
 fn step(st: State, buf: &mut [u8]) -> State

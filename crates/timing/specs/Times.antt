@@ -1,5 +1,6 @@
 -- What the search for the least time takes and leaves.
---     Awaited, First      the halving: disks that have no room for so many blocks at a time, and a later time of which that still holds just before
+--     Awaited, Between    the doubling: disks that have no room for so many blocks at a time, and two later times between which they come to have it
+--     First               the halving: a later time, just before which they still have no room
 --     Fits, FilledAt      blocks placed within the capacities at a time, as many as there is room for
 --     Raised, Least       a time before which a set is short, and at last with a schedule in that time
 --     ShortDisks          the disks of the short set
@@ -22,6 +23,14 @@ pub record Awaited (n : ℕ) (costs starts : List ℕ) (t x size : ℕ) : Type 0
   pub table : Table n costs starts
   pub before : roomOf n costs starts x t < size
   pub time : t < 1125000000
+
+-- low and high are times from t on; the disks of x have no room for size blocks at low, and have at high if that is not the end of all times
+pub record Between (n : ℕ) (costs starts : List ℕ) (t x size low high : ℕ) : Type 0 where
+  pub from : t ≤ low
+  pub rises : low < high
+  pub time : high ≤ 1125000000
+  pub before : roomOf n costs starts x low < size
+  pub after : high < 1125000000 → size ≤ roomOf n costs starts x high
 
 -- r is a time after t, and just before it the disks of x have no room for size blocks
 pub record First (n : ℕ) (costs starts : List ℕ) (t x size r : ℕ) : Type 0 where

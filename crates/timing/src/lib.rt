@@ -1,13 +1,12 @@
 // Capacities at a time, the least time, and the short set.
 ghost use mathlib.Core.Path.{_≡_};
-ghost use Prim.Native.Nat.{ℕ, _+_, _-_, _<_, _≤_};
+ghost use Prim.Native.Nat.{_-_, _<_, _≤_};
 ghost use lib.ListN.{length, getD};
 ghost use Rattle.model.specs.Capacity.{capacity};
 ghost use Rattle.model.specs.Shortfall.{size};
-ghost use Rattle.places.specs.Places.{Placed};
-ghost use Rattle.timing.specs.Table.{Table, Copies, Capacities, roomOf};
+ghost use Rattle.timing.specs.Table.{Table, Capacities, roomOf};
 ghost use Rattle.timing.specs.Among.{among};
-ghost use Rattle.timing.specs.Times.{Awaited, First, FilledAt, Fits, Raised, Least, ShortDisks};
+ghost use Rattle.timing.specs.Times.{Awaited, Between, First, FilledAt, Fits, Raised, Least, ShortDisks};
 
 // How many blocks a disk has read by time t.
 fn able(start: u32, cost: u32, t: u32) -> u32
@@ -61,13 +60,44 @@ fn count_among(q: usize, masks: &[u64; 1024], x: u64) -> u64
     total
 }
 
-// The first time after t at which the disks of x have room for size blocks: halving between t and the end of all times.
+// Two times, low before high.
+struct Span {
+    low: u32,
+    high: u32,
+}
+
+// Times from t on between which the disks of x come to have room for size blocks: the step from t is doubled until they have.
+fn between(n: usize, costs: &[u32], starts: &[u32], t: u32, x: u64, size: u64) -> Span
+    requires { ⌜ Awaited n (now costs) (now starts) t x size ⌝ }
+    ensures { λ r. ⌜ Between n (now (costs .entry)) (now (starts .entry)) t x size (r .low) (r .high) ⌝ }
+{
+    let mut low = t;
+    let mut step: u32 = 65536;
+    while step < 1125000000 - t {
+        let next = t + step;
+        if size <= room_at(n, costs, starts, next, x) {
+            return Span {
+                low: low,
+                high: next,
+            };
+        }
+        low = next;
+        step *= 2;
+    }
+    Span {
+        low: low,
+        high: 1125000000,
+    }
+}
+
+// The first time after t at which the disks of x have room for size blocks: halving between two times.
 fn earliest(n: usize, costs: &[u32], starts: &[u32], t: u32, x: u64, size: u64) -> u32
     requires { ⌜ Awaited n (now costs) (now starts) t x size ⌝ }
     ensures { λ r. ⌜ First n (now (costs .entry)) (now (starts .entry)) t x size r ⌝ }
 {
-    let mut low = t;
-    let mut high: u32 = 1125000000;
+    let span = between(n, costs, starts, t, x, size);
+    let mut low = span.low;
+    let mut high = span.high;
     while high - low > 1 {
         let mid = low + (high - low) / 2;
         if room_at(n, costs, starts, mid, x) < size {

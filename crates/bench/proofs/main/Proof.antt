@@ -1,6 +1,6 @@
 -- `main`: the line lies within its buffer (`printed-within`).
 use borrow.Author.Needs.{needs}
-use Rattle.console.proofs.Adding.{printed-within}
+use Rattle.line.proofs.Adding.{printed-within}
 use lib.Seq.{length-take-le}
 use mathlib.Core.Path.{sym}
 use Rattle.bench.proofs.main.Statement.{statement}

@@ -1,17 +1,18 @@
 -- `eights`: the loop that gathers numbers, at eight bytes each.
 use borrow.Author.Needs.{needs}
 use native.Mathlib.Omega.{arith}
-use Prim.Native.Nat.{_-_}
-use Rattle.desk.proofs.Filling.{Gathered, gathered-start, gathered-length, gathered-step, gathered-done}
+use Prim.Native.Nat.{ℕ, _-_}
+use lib.ListN.{replicate, length-replicate}
+use Rattle.desk.proofs.Filling.{Gathered, gathered-start, gathered-step, gathered-done}
 use mathlib.Core.Path.{refl}
 use Rattle.desk.proofs.eights.Statement.{statement}
 use Rattle.desk.proofs.eights.Tie as tie
 
 abbrev Inv-loop : tie.InvT-loop
-Inv-loop bytes out₀ n i₀ out i = Gathered 8 n bytes out₀ out i
+Inv-loop bytes n out₀ i₀ out i = Gathered 8 n bytes (replicate 1024 0) out i
 
 abbrev μ-loop : tie.MeasureT-loop
-μ-loop bytes out₀ n i₀ out i = n - i
+μ-loop bytes n out₀ i₀ out i = n - i
 
 loop-holds : tie.Need-loop-holds Inv-loop μ-loop
 loop-holds c = gathered-start refl
@@ -25,8 +26,8 @@ eight-at-requires c κs = search needs
 mul-out : tie.Need-mul-out Inv-loop μ-loop
 mul-out c = search needs
 
-slice-write-out : tie.Need-slice-write-out Inv-loop μ-loop
-slice-write-out c = omega (arith, gathered-length (c .before .before .loop .inv) (c .before .before .before .before .before .pre), c .before .before .before .before .before .pre)
+array-write-out : tie.Need-array-write-out Inv-loop μ-loop
+array-write-out c = search needs
 
 add-i : tie.Need-add-i Inv-loop μ-loop
 add-i c = search needs
@@ -35,10 +36,7 @@ loop-less : tie.Need-loop-less Inv-loop μ-loop
 loop-less c = search needs
 
 loop-again : tie.Need-loop-again Inv-loop μ-loop
-loop-again c = gathered-step (c .before .before .loop .inv) (c .before .loop-test .taken) (c .before .before .before .before .before .pre) (c .eight-at .ensures)
-
-same-length : tie.Need-same-length Inv-loop μ-loop
-same-length c = gathered-length (c .before .loop .inv) (c .before .before .before .before .pre)
+loop-again c = gathered-step (c .before .before .loop .inv) (c .before .loop-test .taken) (omega (arith, c .before .before .before .before .pre, length-replicate {A = ℕ} 1024 0)) (c .eight-at .ensures)
 
 returns : tie.Need-returns Inv-loop μ-loop
 returns c = gathered-done (c .before .loop .inv) (c .loop-test .left)
@@ -53,9 +51,8 @@ eights-spec =
     mul-eight-at
     eight-at-requires
     mul-out
-    slice-write-out
+    array-write-out
     add-i
     loop-less
     loop-again
-    same-length
     returns)

@@ -32,6 +32,9 @@ enum-known-a-2 c = search needs
 number-of-requires : tie.Need-number-of-requires
 number-of-requires c κs = search needs
 
+cast-result : tie.Need-cast-result
+cast-result c = search needs
+
 returns : tie.Need-returns
 returns c = packed-head (c .before .before .a .given .1)
 
@@ -51,5 +54,6 @@ pack-plan-spec =
     add-result-2
     enum-known-a-2
     number-of-requires
+    cast-result
     returns
     returns-2)

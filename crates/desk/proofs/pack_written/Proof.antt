@@ -17,6 +17,9 @@ enum-known-w-2 c = search needs
 number-of-requires : tie.Need-number-of-requires
 number-of-requires c κs = search needs
 
+cast-result : tie.Need-cast-result
+cast-result c = search needs
+
 returns : tie.Need-returns
 returns c = packed-length (c .before .w .given .1)
 
@@ -26,4 +29,4 @@ returns-2 c = packed-refusal (c .before .before .w2 .given .1) (c .number-of .en
 pub pack-written-spec : {M : Type 1} → statement M
 pack-written-spec =
     tie.close
-    (tie.spec enum-known-w mul-result enum-known-w-2 number-of-requires returns returns-2)
+    (tie.spec enum-known-w mul-result enum-known-w-2 number-of-requires cast-result returns returns-2)

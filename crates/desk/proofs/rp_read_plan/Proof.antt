@@ -57,6 +57,9 @@ enum-known-e c = search needs
 number-of-requires : tie.Need-number-of-requires
 number-of-requires c κs = search needs
 
+cast-result : tie.Need-cast-result
+cast-result c = search needs
+
 same-length : tie.Need-same-length
 same-length c = search needs
 
@@ -106,6 +109,7 @@ rp-read-plan-spec =
     pack-plan-requires
     enum-known-e
     number-of-requires
+    cast-result
     same-length
     same-length-2
     returns

@@ -15,17 +15,14 @@ usable-requires c κs = search needs
 returns : tie.Need-returns
 returns c = wrote-refused _ (copies-unusable _ _ _ _ (sym (c .before .usable .ensures) ∙ not-true _ (c .if1 .taken)))
 
-slice-aggregate-eights : tie.Need-slice-aggregate-eights
-slice-aggregate-eights c = search needs
-
 eights-requires : tie.Need-eights-requires
-eights-requires c κs = is-usable 8 1024 _ (sym (c .before .before .usable .ensures) ∙ not-false _ (c .before .if1 .left)) .1
+eights-requires c κs = is-usable 8 1024 _ (sym (c .before .usable .ensures) ∙ not-false _ (c .if1 .left)) .1
 
 array-share-prefix-blocks : tie.Need-array-share-prefix-blocks
-array-share-prefix-blocks c = part-within 8 _ _ _ (c .before .eights .ensures)
+array-share-prefix-blocks c = part-within 8 _ _ _ (c .eights .ensures)
 
 slice-aggregate-write : tie.Need-slice-aggregate-write
-slice-aggregate-write c = part-count 8 _ _ _ (c .before .before .eights .ensures)
+slice-aggregate-write c = part-count 8 _ _ _ (c .before .eights .ensures)
 
 write-requires : tie.Need-write-requires
 write-requires c κs = search needs
@@ -37,7 +34,7 @@ same-length : tie.Need-same-length
 same-length c = search needs
 
 returns-2 : tie.Need-returns-2
-returns-2 c = wrote-sent (request-usable _ _ _ _ (sym (c .before .before .before .before .before .before .before .before .before .before .usable .ensures) ∙ not-false _ (c .before .before .before .before .before .before .before .before .before .if1 .left)) ∙ ap (requestDraft _ _ _) (sym (part-numbers 8 _ _ _ (c .before .before .before .before .before .before .before .eights .ensures)))) (c .before .before .before .write .ensures) (c .pack-written .ensures)
+returns-2 c = wrote-sent (request-usable _ _ _ _ (sym (c .before .before .before .before .before .before .before .before .usable .ensures) ∙ not-false _ (c .before .before .before .before .before .before .before .if1 .left)) ∙ ap (requestDraft _ _ _) (sym (part-numbers 8 _ _ _ (c .before .before .before .before .before .before .eights .ensures)))) (c .before .before .before .write .ensures) (c .pack-written .ensures)
 
 pub rp-write-request-spec : {M : Type 1} → statement M
 rp-write-request-spec =
@@ -45,7 +42,6 @@ rp-write-request-spec =
     (tie.spec
     usable-requires
     returns
-    slice-aggregate-eights
     eights-requires
     array-share-prefix-blocks
     slice-aggregate-write

@@ -5,20 +5,11 @@ use Rattle.desk.proofs.Over.{part-numbers, part-count}
 use Rattle.desk.proofs.send_settings.Statement.{statement}
 use Rattle.desk.proofs.send_settings.Tie as tie
 
-slice-aggregate-fours : tie.Need-slice-aggregate-fours
-slice-aggregate-fours c = search needs
-
 fours-requires : tie.Need-fours-requires
 fours-requires c κs = search needs
 
-slice-aggregate-fours-2 : tie.Need-slice-aggregate-fours-2
-slice-aggregate-fours-2 c = search needs
-
 fours-requires-2 : tie.Need-fours-requires-2
 fours-requires-2 c κs = search needs
-
-slice-aggregate-fours-3 : tie.Need-slice-aggregate-fours-3
-slice-aggregate-fours-3 c = search needs
 
 fours-requires-3 : tie.Need-fours-requires-3
 fours-requires-3 c κs = search needs
@@ -27,19 +18,19 @@ array-share-prefix-c : tie.Need-array-share-prefix-c
 array-share-prefix-c c = search needs
 
 slice-aggregate-write : tie.Need-slice-aggregate-write
-slice-aggregate-write c = part-count 4 _ _ _ (c .before .before .before .before .before .before .before .before .fours .ensures)
+slice-aggregate-write c = part-count 4 _ _ _ (c .before .before .before .fours .ensures)
 
 array-share-prefix-l : tie.Need-array-share-prefix-l
 array-share-prefix-l c = search needs
 
 slice-aggregate-write-2 : tie.Need-slice-aggregate-write-2
-slice-aggregate-write-2 c = part-count 4 _ _ _ (c .before .before .before .before .before .before .fours2 .ensures)
+slice-aggregate-write-2 c = part-count 4 _ _ _ (c .before .before .before .fours2 .ensures)
 
 array-share-prefix-d : tie.Need-array-share-prefix-d
 array-share-prefix-d c = search needs
 
 slice-aggregate-write-3 : tie.Need-slice-aggregate-write-3
-slice-aggregate-write-3 c = part-count 4 _ _ _ (c .before .before .before .before .fours3 .ensures)
+slice-aggregate-write-3 c = part-count 4 _ _ _ (c .before .before .before .fours3 .ensures)
 
 write-requires : tie.Need-write-requires
 write-requires c κs = search needs
@@ -48,17 +39,14 @@ same-length : tie.Need-same-length
 same-length c = search needs
 
 returns : tie.Need-returns
-returns c = settings-sent _ _ (part-numbers 4 _ _ _ (c .before .before .before .before .before .before .before .before .before .before .before .before .before .before .fours .ensures)) (part-numbers 4 _ _ _ (c .before .before .before .before .before .before .before .before .before .before .before .fours2 .ensures)) (part-numbers 4 _ _ _ (c .before .before .before .before .before .before .before .before .fours3 .ensures)) (c .before .before .write .ensures)
+returns c = settings-sent _ _ (part-numbers 4 _ _ _ (c .before .before .before .before .before .before .before .before .before .fours .ensures)) (part-numbers 4 _ _ _ (c .before .before .before .before .before .before .before .before .fours2 .ensures)) (part-numbers 4 _ _ _ (c .before .before .before .before .before .before .before .fours3 .ensures)) (c .before .before .write .ensures)
 
 pub send-settings-spec : {M : Type 1} → statement M
 send-settings-spec =
     tie.close
     (tie.spec
-    slice-aggregate-fours
     fours-requires
-    slice-aggregate-fours-2
     fours-requires-2
-    slice-aggregate-fours-3
     fours-requires-3
     array-share-prefix-c
     slice-aggregate-write

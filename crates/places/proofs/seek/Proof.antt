@@ -1,8 +1,7 @@
 -- `places::seek` meets its contract.
 use Prim.Native.Nat.{_<_}
-use mathlib.Core.Path.{sym, ap, subst, _∙_}
-use mathlib.Core.Bool.{Bool, not}
-use Rattle.model.proofs.Bool.{and-both}
+use mathlib.Core.Path.{subst}
+use mathlib.Core.Bool.{Bool}
 use Rattle.places.specs.Outcome.{Sought}
 use Rattle.places.proofs.Turns.{Seeks, rest, seeks-start, seeks-wrap, seeks-mark, seeks-way, seeks-stuck, wrap-less, mark-less}
 use borrow.Author.Needs.{needs}
@@ -47,51 +46,34 @@ element-copy-out-without c = search needs
 without-requires : tie.Need-without-requires Inv-search μ-search
 without-requires c κs = search needs
 
-choose-requires : tie.Need-choose-requires Inv-search μ-search
-choose-requires c κs =
-    let f = c .before .before .before .scan .ensures .found (omega arith) .1 in
-    (f .0, c .without .ensures (f .0) ∙ and-both _ _ (f .1) (ap not (f .2)))
+reach-requires : tie.Need-reach-requires Inv-search μ-search
+reach-requires c κs = search needs
 
-cast-by : tie.Need-cast-by Inv-search μ-search
-cast-by c = search needs
-
-mul-by : tie.Need-mul-by Inv-search μ-search
-mul-by c = search needs
-
-element-write-by : tie.Need-element-write-by Inv-search μ-search
-element-write-by c = search needs
-
-mul-stamp : tie.Need-mul-stamp Inv-search μ-search
-mul-stamp c = search needs
-
-element-write-stamp : tie.Need-element-write-stamp Inv-search μ-search
-element-write-stamp c = search needs
-
-test-requires : tie.Need-test-requires Inv-search μ-search
-test-requires c κs = search needs
-
-set-requires : tie.Need-set-requires Inv-search μ-search
-set-requires c κs = search needs
+either-requires : tie.Need-either-requires Inv-search μ-search
+either-requires c κs = search needs
 
 search-less-2 : tie.Need-search-less-2 Inv-search μ-search
 search-less-2 c =
-    let s = c .before .before .before .before .before .before .before .before .before in
-    let l = c .before .before .before .before .before .before .before .before .search in
-    let g = c .before .before .before .before .before .before .before .scan in
-    let w = c .before .before .before .before .without in
-    let ch = c .before .before .before .choose in
-    let h : g .result < s .args .q = omega arith in
-    mark-less (s .args .n) (s .args .q) (s .args .masks .now) (s .args .at .now) (s .args .room) (s .args .from) (l .b) (g .result) (ch .result) (l .reached) (w .result) (l .by) (l .stamp) (l .again) (s .pre .kept) (l .inv) h (g .ensures .found h .0) (w .ensures) (ch .ensures) (c .set .result) (c .set .ensures) (sym (c .before .before .test .ensures) ∙ c .before .if3 .left) (omega (arith, c .set .ok)) (s .pre .blocks)
+    let s = c .before .before .before .before .before .before .before .before .before .before in
+    let a = s .args in
+    let l = c .before .before .before .before .before .before .before .before .before .search in
+    let g = c .before .before .before .before .before .before .before .before .scan in
+    let w = c .before .before .before .before .before .without in
+    let d = c .before .before .reach in
+    let h : g .result < a .q = omega arith in
+    mark-less (a .n) (a .q) (a .masks .now) (a .at .now) (a .room) (a .from) (l .b) (g .result) (l .reached) (w .result) (l .by) (l .stamp) (d .last .1 .1 .1 .1 .0) (d .last .1 .1 .1 .1 .1 .0) (l .again) (s .pre .kept) (l .inv) h (g .ensures .found h .0) (w .ensures) (c .either .result) (c .either .ensures) (omega (arith, c .either .ok)) (g .ensures .found h .1) (s .pre .blocks)
 
 search-again-2 : tie.Need-search-again-2 Inv-search μ-search
 search-again-2 c =
-    let s = c .before .before .before .before .before .before .before .before .before in
-    let l = c .before .before .before .before .before .before .before .before .search in
-    let g = c .before .before .before .before .before .before .before .scan in
-    let w = c .before .before .before .before .without in
-    let ch = c .before .before .before .choose in
-    let h : g .result < s .args .q = omega arith in
-    seeks-mark (s .args .n) (s .args .q) (s .args .masks .now) (s .args .at .now) (s .args .room) (s .args .from) (l .b) (g .result) (ch .result) (l .reached) (w .result) (l .by) (l .stamp) (l .again) (s .pre .kept) (l .inv) h (g .ensures .found h .0) (w .ensures) (ch .ensures) (c .set .result) (c .set .ensures) (sym (c .before .before .test .ensures) ∙ c .before .if3 .left) (omega (arith, c .set .ok))
+    let s = c .before .before .before .before .before .before .before .before .before .before in
+    let a = s .args in
+    let l = c .before .before .before .before .before .before .before .before .before .search in
+    let g = c .before .before .before .before .before .before .before .before .scan in
+    let w = c .before .before .before .before .before .without in
+    let d = c .before .before .reach in
+    let h : g .result < a .q = omega arith in
+    let f = d .ensures .full (c .before .if3 .left) in
+    seeks-mark (a .n) (a .q) (a .masks .now) (a .at .now) (a .room) (a .from) (l .b) (g .result) (l .reached) (w .result) (l .by) (l .stamp) (d .last .1 .1 .1 .1 .0) (d .last .1 .1 .1 .1 .1 .0) (l .again) (s .pre .kept) (l .inv) h (g .ensures .found h .0) (w .ensures) (c .either .result) (c .either .ensures) (omega (arith, c .either .ok)) (g .ensures .found h .1) (f .0) (f .1)
 
 returns : tie.Need-returns Inv-search μ-search
 unfolding Sought
@@ -105,13 +87,15 @@ returns c =
 returns-2 : tie.Need-returns-2 Inv-search μ-search
 unfolding Sought
 returns-2 c =
-    let s = c .before .before .before .before .before .before .before .before in
-    let l = c .before .before .before .before .before .before .before .search in
-    let g = c .before .before .before .before .before .before .scan in
-    let w = c .before .before .before .without in
-    let ch = c .before .before .choose in
-    let h : g .result < s .args .q = omega arith in
-    (seeks-way (s .args .n) (s .args .q) (s .args .masks .now) (s .args .at .now) (s .args .room) (s .args .from) (l .b) (g .result) (ch .result) (l .reached) (w .result) (l .by) (l .stamp) (l .again) (s .pre .kept) (l .inv) h (g .ensures .found h .0) (w .ensures) (ch .ensures), sym (c .before .test .ensures) ∙ c .if3 .taken)
+    let s = c .before .before .before .before .before .before .before .before .before in
+    let a = s .args in
+    let l = c .before .before .before .before .before .before .before .before .search in
+    let g = c .before .before .before .before .before .before .before .scan in
+    let w = c .before .before .before .before .without in
+    let d = c .before .reach in
+    let h : g .result < a .q = omega arith in
+    let f = d .ensures .free (c .if3 .taken) in
+    (seeks-way (a .n) (a .q) (a .masks .now) (a .at .now) (a .room) (a .from) (l .b) (g .result) (l .reached) (w .result) (l .by) (l .stamp) (d .last .1 .1 .1 .1 .0) (d .last .1 .1 .1 .1 .1 .0) (l .again) (s .pre .kept) (l .inv) h (g .ensures .found h .0) (w .ensures) (d .result) (f .0) (f .2), f .1)
 
 pub seek-spec : {M : Type 1} → statement M
 seek-spec =
@@ -126,14 +110,8 @@ seek-spec =
     mul-without
     element-copy-out-without
     without-requires
-    choose-requires
-    cast-by
-    mul-by
-    element-write-by
-    mul-stamp
-    element-write-stamp
-    test-requires
-    set-requires
+    reach-requires
+    either-requires
     search-less-2
     search-again-2
     returns

@@ -10,11 +10,8 @@ use mathlib.Core.Path.{sym, ap, _∙_}
 use Rattle.plan.proofs.lists.Statement.{statement}
 use Rattle.plan.proofs.lists.Tie as tie
 
-slice-aggregate-read-disks : tie.Need-slice-aggregate-read-disks
-slice-aggregate-read-disks c = search needs
-
-read-disks-requires : tie.Need-read-disks-requires
-read-disks-requires c κs = search needs
+past-disks-requires : tie.Need-past-disks-requires
+past-disks-requires c κs = search needs
 
 enum-known-p : tie.Need-enum-known-p
 enum-known-p c = search needs
@@ -30,7 +27,7 @@ enum-known-m c = search needs
 
 short-last-requires : tie.Need-short-last-requires
 unfolding Bytes
-short-last-requires c κs = (inside-spelt _ _ _ _ (λ i. c .before .before .before .before .before .before .before .before .before .before .before .shared-slice-known .given i .fits) _ _ (told-got (c .before .before .before .ranged .ensures) (c .before .m .given .1)) .2, c .before .before .before .before .before .before .before .before .before .before .before .before .pre)
+short-last-requires c κs = (inside-spelt _ _ _ _ (λ i. c .before .before .before .before .before .before .before .before .before .shared-slice-known .given i .fits) _ _ (told-got (c .before .before .before .ranged .ensures) (c .before .m .given .1)) .2, c .before .before .before .before .before .before .before .before .before .before .pre)
 
 enum-told : tie.Need-enum-told
 enum-told c = search needs
@@ -46,26 +43,25 @@ enum-known-e-3 c = search needs
 
 returns : tie.Need-returns
 unfolding told
-returns c = lists-done _ _ _ _ (c .before .before .before .before .before .before .before .before .before .before .before .before .read-disks .ensures .answer) (c .before .before .before .before .before .before .before .before .before .p .given .1) (bounds-size _ _ _ _ (c .before .before .before .before .before .before .before .if-any .ensures) (told-got (c .before .before .before .before .before .before .ranged .ensures) (c .before .before .before .before .m .given .1))) (c .before .before .before .before .before .before .before .before .before .before .before .before .before .before .before .pre) (sym (c .before .before .short-last .ensures) ∙ ap told (c .enum-told .given .1))
+returns c = lists-done _ _ _ _ (c .before .before .before .before .before .before .before .before .before .before .before .past-disks .ensures) (c .before .before .before .before .before .before .before .before .before .p .given .1) (bounds-size _ _ _ _ (c .before .before .before .before .before .before .before .if-any .ensures) (told-got (c .before .before .before .before .before .before .ranged .ensures) (c .before .before .before .before .m .given .1))) (c .before .before .before .before .before .before .before .before .before .before .before .before .before .pre) (sym (c .before .before .short-last .ensures) ∙ ap told (c .enum-told .given .1))
 
 returns-2 : tie.Need-returns-2
 unfolding told Checked
-returns-2 c = lists-short _ _ _ _ (c .before .before .before .before .before .before .before .before .before .before .before .before .before .read-disks .ensures .answer) (c .before .before .before .before .before .before .before .before .before .before .p .given .1) (bounds-size _ _ _ _ (c .before .before .before .before .before .before .before .before .if-any .ensures) (told-got (c .before .before .before .before .before .before .before .ranged .ensures) (c .before .before .before .before .before .m .given .1))) (sym (c .before .before .before .short-last .ensures) ∙ ap told (c .before .e .given .1))
+returns-2 c = lists-short _ _ _ _ (c .before .before .before .before .before .before .before .before .before .before .before .before .past-disks .ensures) (c .before .before .before .before .before .before .before .before .before .before .p .given .1) (bounds-size _ _ _ _ (c .before .before .before .before .before .before .before .before .if-any .ensures) (told-got (c .before .before .before .before .before .before .before .ranged .ensures) (c .before .before .before .before .before .m .given .1))) (sym (c .before .before .before .short-last .ensures) ∙ ap told (c .before .e .given .1))
 
 returns-3 : tie.Need-returns-3
 unfolding Checked
-returns-3 c = lists-size _ _ _ _ (c .before .before .before .before .before .before .before .before .before .read-disks .ensures .answer) (c .before .before .before .before .before .before .p .given .1) (bounds-size _ _ _ _ (c .before .before .before .before .if-any .ensures) (told-refused (c .before .before .before .ranged .ensures) (c .before .e2 .given .1)))
+returns-3 c = lists-size _ _ _ _ (c .before .before .before .before .before .before .before .before .past-disks .ensures) (c .before .before .before .before .before .before .p .given .1) (bounds-size _ _ _ _ (c .before .before .before .before .if-any .ensures) (told-refused (c .before .before .before .ranged .ensures) (c .before .e2 .given .1)))
 
 returns-4 : tie.Need-returns-4
 unfolding Checked
-returns-4 c = lists-disks _ _ _ _ (c .before .before .before .before .read-disks .ensures .answer) (c .before .e3 .given .1)
+returns-4 c = lists-disks _ _ _ _ (c .before .before .before .past-disks .ensures) (c .before .e3 .given .1)
 
 pub lists-spec : {M : Type 1} → statement M
 lists-spec =
     tie.close
     (tie.spec
-    slice-aggregate-read-disks
-    read-disks-requires
+    past-disks-requires
     enum-known-p
     if-any-requires
     ranged-requires

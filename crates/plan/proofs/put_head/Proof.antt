@@ -1,8 +1,13 @@
--- `put_head`: five numbers, one behind another (`Adds`).
+-- `put_head`: the opening, and two numbers behind it (`Adds`).
 use borrow.Author.Needs.{needs}
-use Rattle.plan.proofs.Adding.{adds-none, adds-put}
+use Rattle.plan.proofs.Adding.{adds-opening, adds-put}
+use Rattle.plan.proofs.Drafting.{opening-room}
 use Rattle.plan.proofs.put_head.Statement.{statement}
 use Rattle.plan.proofs.put_head.Tie as tie
+
+put-opening-requires : tie.Need-put-opening-requires
+put-opening-requires c κs = let a = c .before .before .args in
+    opening-room 3 (a .unit) (a .tenancy) (a .q) (a .time) (a .out .now) (c .before .before .pre)
 
 put-requires : tie.Need-put-requires
 put-requires c κs = search needs
@@ -10,29 +15,12 @@ put-requires c κs = search needs
 put-requires-2 : tie.Need-put-requires-2
 put-requires-2 c κs = search needs
 
-put-requires-3 : tie.Need-put-requires-3
-put-requires-3 c κs = search needs
-
-put-requires-4 : tie.Need-put-requires-4
-put-requires-4 c κs = search needs
-
-put-requires-5 : tie.Need-put-requires-5
-put-requires-5 c κs = search needs
-
 same-length : tie.Need-same-length
 same-length c = search needs
 
 returns : tie.Need-returns
-returns c = adds-put (adds-put (adds-put (adds-put (adds-put (adds-none _ _) (c .before .before .before .before .before .before .before .before .before .before .before .before .before .before .before .before .before .before .put .ensures)) (c .before .before .before .before .before .before .before .before .before .before .before .before .before .before .put2 .ensures)) (c .before .before .before .before .before .before .before .before .before .before .put3 .ensures)) (c .before .before .before .before .before .before .put4 .ensures)) (c .before .before .put5 .ensures)
+returns c = adds-put (adds-put (adds-opening _ _ _ (c .before .before .before .before .before .before .before .before .before .before .put-opening .ensures)) (c .before .before .before .before .before .before .put .ensures)) (c .before .before .put2 .ensures)
 
 pub put-head-spec : {M : Type 1} → statement M
 put-head-spec =
-    tie.close
-    (tie.spec
-    put-requires
-    put-requires-2
-    put-requires-3
-    put-requires-4
-    put-requires-5
-    same-length
-    returns)
+    tie.close (tie.spec put-opening-requires put-requires put-requires-2 same-length returns)

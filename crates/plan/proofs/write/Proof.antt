@@ -1,7 +1,7 @@
 -- `write`: counts above 1,024, a buffer that is too short, or four parts one behind another (`Adds`).
 use borrow.Author.Needs.{needs}
 use native.Mathlib.Omega.{arith}
-use Rattle.plan.proofs.Drafting.{many-disks, many-members, long-sent, sheet-sent}
+use Rattle.plan.proofs.Drafting.{many-disks, many-members, head-room, long-sent, sheet-sent}
 use Rattle.plan.proofs.Adding.{adds-put, adds-join}
 use Rattle.plan.proofs.write.Statement.{statement}
 use Rattle.plan.proofs.write.Tie as tie
@@ -22,7 +22,8 @@ cast-put-head : tie.Need-cast-put-head
 cast-put-head c = search needs
 
 put-head-requires : tie.Need-put-head-requires
-put-head-requires c κs = search needs
+put-head-requires c κs = let a = c .before .before .before .before .before .before .before .before .args in
+    head-room (a .unit) (a .tenancy) (record { time = a .time; disks = a .disks .now; short = a .short .now }) (a .out .now) (c .before .before .sheet-width .ensures) (c .before .if3 .left)
 
 put-disks-requires : tie.Need-put-disks-requires
 put-disks-requires c κs = search needs

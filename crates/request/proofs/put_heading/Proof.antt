@@ -1,32 +1,26 @@
--- `put_heading` meets its contract: four fields, one behind the other.
+-- `put_heading` meets its contract: the opening, and Q behind it.
 use borrow.Author.Needs.{needs}
-use Rattle.request.proofs.Writing.{put-head}
+use Rattle.number.specs.Encode.{encode}
+use Rattle.field.specs.Put.{openingBytes}
+use Rattle.field.proofs.Puts.{front-room, put-behind}
+use Rattle.request.specs.Draft.{headingBytes}
 use Rattle.request.proofs.put_heading.Statement.{statement}
 use Rattle.request.proofs.put_heading.Tie as tie
 
+put-opening-requires : tie.Need-put-opening-requires
+unfolding headingBytes
+put-opening-requires c κs = let a = c .before .before .args in
+    front-room (openingBytes 2 (a .unit) (a .tenancy)) (encode (a .q)) (a .out .now) (c .before .before .pre)
+
 put-requires : tie.Need-put-requires
 put-requires c κs = search needs
-
-put-requires-2 : tie.Need-put-requires-2
-put-requires-2 c κs = search needs
-
-put-requires-3 : tie.Need-put-requires-3
-put-requires-3 c κs = search needs
-
-put-requires-4 : tie.Need-put-requires-4
-put-requires-4 c κs = search needs
 
 same-length : tie.Need-same-length
 same-length c = search needs
 
 returns : tie.Need-returns
-returns c = let fourth = c .before .before in
-    let third = fourth .before .before .before .before in
-    let second = third .before .before .before .before in
-    let first = second .before .before .before .before in
-    put-head (first .put .ensures) (second .put2 .ensures) (third .put3 .ensures) (fourth .put4 .ensures) (first .before .before .before .pre)
+unfolding headingBytes
+returns c = put-behind (c .before .before .before .before .before .before .put-opening .ensures) (c .before .before .put .ensures) (c .before .before .before .before .before .before .before .before .before .pre)
 
 pub put-heading-spec : {M : Type 1} → statement M
-put-heading-spec =
-    tie.close
-    (tie.spec put-requires put-requires-2 put-requires-3 put-requires-4 same-length returns)
+put-heading-spec = tie.close (tie.spec put-opening-requires put-requires same-length returns)

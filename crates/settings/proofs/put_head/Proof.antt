@@ -1,28 +1,26 @@
--- `settings::put_head`: four fields, one behind the other.
+-- `settings::put_head`: the opening, and N behind it.
 use borrow.Author.Needs.{needs}
-use Rattle.settings.proofs.Writing.{put-four}
+use Rattle.number.specs.Encode.{encode}
+use Rattle.field.specs.Put.{openingBytes}
+use Rattle.field.proofs.Puts.{front-room, put-behind}
+use Rattle.settings.specs.Draft.{headBytes}
 use Rattle.settings.proofs.put_head.Statement.{statement}
 use Rattle.settings.proofs.put_head.Tie as tie
 
+put-opening-requires : tie.Need-put-opening-requires
+unfolding headBytes
+put-opening-requires c κs = let a = c .before .before .args in
+    front-room (openingBytes 1 (a .unit) (a .tenancy)) (encode (a .disks)) (a .out .now) (c .before .before .pre)
+
 put-requires : tie.Need-put-requires
 put-requires c κs = search needs
-
-put-requires-2 : tie.Need-put-requires-2
-put-requires-2 c κs = search needs
-
-put-requires-3 : tie.Need-put-requires-3
-put-requires-3 c κs = search needs
-
-put-requires-4 : tie.Need-put-requires-4
-put-requires-4 c κs = search needs
 
 same-length : tie.Need-same-length
 same-length c = search needs
 
 returns : tie.Need-returns
-returns c = put-four (c .before .before .before .before .before .before .before .before .before .before .before .before .before .before .put .ensures) (c .before .before .before .before .before .before .before .before .before .before .put2 .ensures) (c .before .before .before .before .before .before .put3 .ensures) (c .before .before .put4 .ensures) (c .before .before .before .before .before .before .before .before .before .before .before .before .before .before .before .before .before .pre)
+unfolding headBytes
+returns c = put-behind (c .before .before .before .before .before .before .put-opening .ensures) (c .before .before .put .ensures) (c .before .before .before .before .before .before .before .before .before .pre)
 
 pub put-head-spec : {M : Type 1} → statement M
-put-head-spec =
-    tie.close
-    (tie.spec put-requires put-requires-2 put-requires-3 put-requires-4 same-length returns)
+put-head-spec = tie.close (tie.spec put-opening-requires put-requires same-length returns)

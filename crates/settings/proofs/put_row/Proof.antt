@@ -1,6 +1,7 @@
 -- `settings::put_row`: three fields, one behind the other.
 use borrow.Author.Needs.{needs}
-use Rattle.settings.proofs.Writing.{put-three}
+use Rattle.field.proofs.Puts.{put-three}
+use Rattle.settings.specs.Row.{rowBytes}
 use Rattle.settings.proofs.put_row.Statement.{statement}
 use Rattle.settings.proofs.put_row.Tie as tie
 
@@ -17,6 +18,7 @@ same-length : tie.Need-same-length
 same-length c = search needs
 
 returns : tie.Need-returns
+unfolding rowBytes
 returns c = put-three (c .before .before .before .before .before .before .before .before .before .before .put .ensures) (c .before .before .before .before .before .before .put2 .ensures) (c .before .before .put3 .ensures) (c .before .before .before .before .before .before .before .before .before .before .before .before .before .pre)
 
 pub put-row-spec : {M : Type 1} → statement M

@@ -23,14 +23,14 @@ enum-known-number c = search needs
 new-requires : tie.Need-new-requires
 new-requires c κs = search needs
 
-shift-requires : tie.Need-shift-requires
-shift-requires c κs = search needs
+rest-requires : tie.Need-rest-requires
+rest-requires c κs = (subst Sound (sym (c .before .new .ensures)) (sound-new _), c .before .before .before .before .before .before .before .before .pre .1)
 
 enum-known-e : tie.Need-enum-known-e
 enum-known-e c = search needs
 
-enum-told : tie.Need-enum-told
-enum-told c = search needs
+number-of-requires : tie.Need-number-of-requires
+number-of-requires c κs = search needs
 
 more-requires : tie.Need-more-requires
 more-requires c κs = search needs
@@ -42,7 +42,7 @@ same-length : tie.Need-same-length
 same-length c = search needs
 
 returns : tie.Need-returns
-returns c = (subst Sound (sym (c .before .before .before .before .new .ensures)) (sound-new _), omega (arith, c .before .before .shift .ensures, c .before .before .before .before .before .before .before .before .before .before .before .pre))
+returns c = search needs
 
 same-length-2 : tie.Need-same-length-2
 same-length-2 c = search needs
@@ -65,9 +65,9 @@ open-spec =
     any-requires
     enum-known-number
     new-requires
-    shift-requires
+    rest-requires
     enum-known-e
-    enum-told
+    number-of-requires
     more-requires
     stopped-requires
     same-length

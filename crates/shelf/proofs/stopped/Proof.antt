@@ -1,6 +1,6 @@
 -- `stopped`: the line lies within its buffer.
 use borrow.Author.Needs.{needs}
-use Rattle.console.proofs.Adding.{printed-within}
+use Rattle.line.proofs.Adding.{printed-within}
 use lib.Seq.{length-take-le}
 use mathlib.Core.Path.{sym}
 use Rattle.shelf.proofs.stopped.Statement.{statement}

@@ -14,8 +14,11 @@ Inv-loop n costs starts t x size low₀ high₀ low high =
 abbrev μ-loop : tie.MeasureT-loop
 μ-loop n costs starts t x size low₀ high₀ low high = high - low
 
+between-requires : tie.Need-between-requires Inv-loop μ-loop
+between-requires c κs = c .before .before .pre
+
 loop-holds : tie.Need-loop-holds Inv-loop μ-loop
-loop-holds c = let p = c .before .before .pre in (omega arith, p .time, omega arith, p .before)
+loop-holds c = let p = c .between .ensures in (p .from, p .rises, p .time, p .before)
 
 sub-loop : tie.Need-sub-loop Inv-loop μ-loop
 sub-loop c = search needs
@@ -27,7 +30,7 @@ add-mid : tie.Need-add-mid Inv-loop μ-loop
 add-mid c = search needs
 
 room-at-requires : tie.Need-room-at-requires Inv-loop μ-loop
-room-at-requires c κs = c .before .before .before .before .pre .table
+room-at-requires c κs = c .before .before .before .before .before .pre .table
 
 loop-less : tie.Need-loop-less Inv-loop μ-loop
 loop-less c = search needs
@@ -43,7 +46,7 @@ loop-again-2 c = let l = c .before .before .before .loop in (omega arith, omega 
 
 returns : tie.Need-returns Inv-loop μ-loop
 returns c =
-    let a = c .before .before .before .before .args in
+    let a = c .before .before .before .before .before .args in
     let l = c .before .loop in
     let e : l .low ≡ l .high - 1 = omega arith in
     record {
@@ -58,6 +61,7 @@ earliest-spec =
     (tie.spec
     Inv-loop
     μ-loop
+    between-requires
     loop-holds
     sub-loop
     sub-mid

@@ -1,0 +1,45 @@
+-- `hire`: a new unit is rented, and is then rented and sound (`let-rent`).
+use borrow.Author.Needs.{needs}
+use Rattle.console.proofs.Benching.{let-rent, hire-taken, hire-denied, tells-refused, tells-same}
+use Rattle.unit.specs.Life.{rent}
+use Rattle.unit.specs.declared.Unit.{Unit}
+use mathlib.Core.Path.{ap, _∙_}
+use Rattle.console.proofs.hire.Statement.{statement}
+use Rattle.console.proofs.hire.Tie as tie
+
+new-requires : tie.Need-new-requires
+new-requires c κs = search needs
+
+rent-requires : tie.Need-rent-requires
+rent-requires c κs = search needs
+
+enum-told : tie.Need-enum-told
+enum-told c = search needs
+
+settle-requires : tie.Need-settle-requires
+settle-requires c κs = let-rent (c .before .before .before .before .before .before .before .args .number) (c .before .before .before .before .before .before .before .args .tenancy) _ (c .before .before .before .before .rent .ensures ∙ ap (λ (u : Unit). rent u (c .before .before .before .before .before .before .before .args .tenancy)) (c .before .before .before .before .before .new .ensures)) (c .before .before .enum-told .given .1)
+
+enum-known-verdict : tie.Need-enum-known-verdict
+enum-known-verdict c = search needs
+
+refuse-requires : tie.Need-refuse-requires
+refuse-requires c κs = search needs
+
+returns : tie.Need-returns
+returns c = tells-same (hire-taken (c .before .before .before .before .before .before .before .before .args .number) (c .before .before .before .before .before .before .before .before .args .tenancy) _ _ _ (c .before .before .before .before .before .rent .ensures ∙ ap (λ (u : Unit). rent u (c .before .before .before .before .before .before .before .before .args .tenancy)) (c .before .before .before .before .before .before .new .ensures)) (c .before .before .before .enum-told .given .1)) (c .settle .ensures)
+
+returns-2 : tie.Need-returns-2
+returns-2 c = tells-refused _ (hire-denied (c .before .before .before .before .before .before .before .before .args .number) (c .before .before .before .before .before .before .before .before .args .tenancy) (c .before .before .before .before .before .before .before .before .args .input .now) (c .before .before .before .before .before .before .before .before .args .at) (c .before .before .before .before .before .rent .result) (c .before .before .before .before .before .rent .ensures ∙ ap (λ (u : Unit). rent u (c .before .before .before .before .before .before .before .before .args .tenancy)) (c .before .before .before .before .before .before .new .ensures)) _ (c .before .before .before .verdict .given .1)) (c .refuse .ensures)
+
+pub hire-spec : {M : Type 1} → statement M
+hire-spec =
+    tie.close
+    (tie.spec
+    new-requires
+    rent-requires
+    enum-told
+    settle-requires
+    enum-known-verdict
+    refuse-requires
+    returns
+    returns-2)

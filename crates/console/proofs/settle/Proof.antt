@@ -1,0 +1,72 @@
+-- `settle`: the settings are applied before the second length is read.
+use borrow.Author.Needs.{needs}
+use native.Mathlib.Omega.{arith}
+use Rattle.console.proofs.Benching.{let-set, settle-taken, settle-denied, settle-stops, tells-refused, tells-same}
+use Rattle.stream.proofs.Framing.{spans-part, spans-refused}
+use Rattle.console.proofs.settle.Statement.{statement}
+use Rattle.console.proofs.settle.Tie as tie
+
+sheet-requires : tie.Need-sheet-requires
+sheet-requires c κs = search needs
+
+enum-known-from : tie.Need-enum-known-from
+enum-known-from c = search needs
+
+sub-settings : tie.Need-sub-settings
+sub-settings c = omega (arith, spans-part (c .before .before .before .sheet .ensures) (c .before .from .given .1) .1 .order)
+
+part-settings-start : tie.Need-part-settings-start
+part-settings-start c = spans-part (c .before .before .before .sheet .ensures) (c .before .from .given .1) .1 .order
+
+part-settings-end : tie.Need-part-settings-end
+part-settings-end c = spans-part (c .before .before .before .sheet .ensures) (c .before .from .given .1) .1 .end
+
+settings-requires : tie.Need-settings-requires
+settings-requires c κs = search needs
+
+enum-told : tie.Need-enum-told
+enum-told c = search needs
+
+close-requires : tie.Need-close-requires
+close-requires c κs = let-set _ _ (c .before .before .before .before .before .before .before .before .before .before .before .pre) (c .before .before .before .before .settings .ensures)
+
+enum-known-verdict : tie.Need-enum-known-verdict
+enum-known-verdict c = search needs
+
+refuse-requires : tie.Need-refuse-requires
+refuse-requires c κs = search needs
+
+enum-known-e : tie.Need-enum-known-e
+enum-known-e c = search needs
+
+refuse-requires-2 : tie.Need-refuse-requires-2
+refuse-requires-2 c κs = search needs
+
+returns : tie.Need-returns
+returns c = tells-same (settle-taken _ _ _ _ _ (spans-part (c .before .before .before .before .before .before .before .before .before .before .sheet .ensures) (c .before .before .before .before .before .before .before .before .from .given .1) .0) _ (c .before .before .before .before .before .settings .ensures) (c .before .before .before .enum-told .given .1)) (c .close .ensures)
+
+returns-2 : tie.Need-returns-2
+returns-2 c = tells-refused _ (settle-denied (c .before .before .before .before .before .before .before .before .before .before .before .before .args .u) (c .before .before .before .before .before .before .before .before .before .before .before .before .args .input .now) (c .before .before .before .before .before .before .before .before .before .before .before .before .args .at) _ _ (spans-part (c .before .before .before .before .before .before .before .before .before .before .sheet .ensures) (c .before .before .before .before .before .before .before .before .from .given .1) .0) (c .before .before .before .before .before .settings .result) (c .before .before .before .before .before .settings .ensures) _ (c .before .before .before .verdict .given .1)) (c .refuse .ensures)
+
+returns-3 : tie.Need-returns-3
+returns-3 c = tells-refused _ (settle-stops _ _ _ _ (spans-refused _ (c .before .before .before .before .before .sheet .ensures) (c .before .before .before .e .given .1))) (c .refuse2 .ensures)
+
+pub settle-spec : {M : Type 1} → statement M
+settle-spec =
+    tie.close
+    (tie.spec
+    sheet-requires
+    enum-known-from
+    sub-settings
+    part-settings-start
+    part-settings-end
+    settings-requires
+    enum-told
+    close-requires
+    enum-known-verdict
+    refuse-requires
+    enum-known-e
+    refuse-requires-2
+    returns
+    returns-2
+    returns-3)

@@ -1,0 +1,4 @@
+pub mod Adding
+pub mod Digits
+pub mod Lines
+pub mod Sending

@@ -1,0 +1,62 @@
+-- `put_disks`. The loop's invariant: the numbers passed stand behind what was there (`Adds`).
+use borrow.Author.Needs.{needs}
+use native.Mathlib.Omega.{arith}
+use Rattle.line.proofs.Adding.{adds-none, adds-next, adds-whole}
+use Rattle.line.specs.Text.{spaced}
+use Rattle.line.specs.Printed.{Adds}
+use Rattle.field.specs.Put.{spellAll}
+use lib.ListN.{length, take}
+use Prim.Native.Nat.{_-_, _≤_}
+use mathlib.Core.Path.{_≡_, refl}
+use Rattle.line.proofs.put_disks.Statement.{statement}
+use Rattle.line.proofs.put_disks.Tie as tie
+
+abbrev Inv-loop : tie.InvT-loop
+Inv-loop xs out₀ at p₀ i₀ out p i = (i ≤ length xs) × Adds (spellAll spaced (take i xs)) out₀ at out p × (length out ≡ length out₀)
+
+abbrev μ-loop : tie.MeasureT-loop
+μ-loop xs out₀ at p₀ i₀ out p i = length xs - i
+
+loop-holds : tie.Need-loop-holds Inv-loop μ-loop
+unfolding spellAll
+loop-holds c = (omega arith, adds-none _ _, refl)
+
+shared-slice-read-put-spaced : tie.Need-shared-slice-read-put-spaced Inv-loop μ-loop
+shared-slice-read-put-spaced c = search needs
+
+cast-put-spaced : tie.Need-cast-put-spaced Inv-loop μ-loop
+cast-put-spaced c = omega (arith, c .shared-slice-known2 .given (c .before .before .loop .i))
+
+put-spaced-requires : tie.Need-put-spaced-requires Inv-loop μ-loop
+put-spaced-requires c κs = search needs
+
+add-i : tie.Need-add-i Inv-loop μ-loop
+add-i c = search needs
+
+loop-less : tie.Need-loop-less Inv-loop μ-loop
+loop-less c = search needs
+
+loop-again : tie.Need-loop-again Inv-loop μ-loop
+loop-again c = (omega arith, adds-next _ (c .before .before .before .before .before .before .before .before .before .args .xs .now) (c .before .before .before .before .before .before .loop .i) (omega arith) (c .before .before .before .before .before .before .loop .inv .1) (c .before .before .put-spaced .ensures), search needs)
+
+same-length : tie.Need-same-length Inv-loop μ-loop
+same-length c = search needs
+
+returns : tie.Need-returns Inv-loop μ-loop
+returns c = adds-whole _ (c .before .before .before .before .args .xs .now) (c .before .loop .i) (omega arith) (c .before .loop .inv .1)
+
+pub put-disks-spec : {M : Type 1} → statement M
+put-disks-spec =
+    tie.close
+    (tie.spec
+    Inv-loop
+    μ-loop
+    loop-holds
+    shared-slice-read-put-spaced
+    cast-put-spaced
+    put-spaced-requires
+    add-i
+    loop-less
+    loop-again
+    same-length
+    returns)

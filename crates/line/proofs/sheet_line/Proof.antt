@@ -1,0 +1,35 @@
+-- `sheet_line`: the word, the sheet in hex, the line feed.
+use borrow.Author.Needs.{needs}
+use native.Mathlib.Omega.{arith}
+use Rattle.line.proofs.Lines.{long-sheet, sheet-printed}
+use Rattle.line.proofs.sheet_line.Statement.{statement}
+use Rattle.line.proofs.sheet_line.Tie as tie
+
+returns : tie.Need-returns
+returns c = long-sheet _ _ (c .if1 .taken)
+
+slice-aggregate-put-text : tie.Need-slice-aggregate-put-text
+slice-aggregate-put-text c = search needs
+
+put-text-requires : tie.Need-put-text-requires
+put-text-requires c κs = search needs
+
+put-hex-requires : tie.Need-put-hex-requires
+put-hex-requires c κs = search needs
+
+put-byte-requires : tie.Need-put-byte-requires
+put-byte-requires c κs = search needs
+
+returns-2 : tie.Need-returns-2
+returns-2 c = sheet-printed _ _ (c .before .before .before .before .before .before .before .if1 .left) (omega arith) (c .before .before .before .before .put-text .ensures) (c .before .before .put-hex .ensures) (c .put-byte .ensures)
+
+pub sheet-line-spec : {M : Type 1} → statement M
+sheet-line-spec =
+    tie.close
+    (tie.spec
+    returns
+    slice-aggregate-put-text
+    put-text-requires
+    put-hex-requires
+    put-byte-requires
+    returns-2)

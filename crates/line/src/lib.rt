@@ -1,0 +1,203 @@
+// What the programs print: lines of text at the start of a lent buffer, which has room for the longest.
+use field::Refusal;
+ghost use Prim.Native.Nat.{_<_};
+ghost use mathlib.Core.Path.{_≡_};
+ghost use mathlib.Core.List.{[], _∷_, _++_};
+ghost use Rattle.field.specs.Put.{spellAll};
+ghost use Rattle.field.specs.Refusal.{numberOf};
+ghost use Rattle.line.specs.Text.{decimal, spaced, pair, hex};
+ghost use Rattle.line.specs.Text.{digit as digitOf};
+ghost use Rattle.line.specs.Line.{feed, bar, word-plan, spoken, planLine, sheetLine};
+ghost use Rattle.line.specs.Printed.{Printed, Adds};
+
+// What a line can say in a word, or in a word and a number.
+pub enum Word {
+    Rented,
+    Set,
+    Returned,
+    Refused(u32),
+    Stopped(u32),
+}
+
+// Puts a byte at a place and answers the place after it; where it has no room, answers the same place.
+fn put_byte(b: u8, out: &mut [u8], at: usize) -> usize
+    ensures { λ r. ⌜ Adds (b ∷ []) (now (out .entry)) at (now (out .exit)) r ⌝ }
+{
+    if out.len() <= at {
+        return at;
+    }
+    out[at] = b;
+    at + 1
+}
+
+fn put_text(text: &[u8], out: &mut [u8], at: usize) -> usize
+    ensures { λ r. ⌜ Adds (now (text .entry)) (now (out .entry)) at (now (out .exit)) r ⌝ }
+{
+    let mut p = at;
+    let mut i: usize = 0;
+    while i < text.len() {
+        p = put_byte(text[i], out, p);
+        i += 1;
+    }
+    p
+}
+
+// The digits before the last one go first.
+fn put_decimal(v: u32, out: &mut [u8], at: usize) -> usize
+    ensures { λ r. ⌜ Adds (decimal v) (now (out .entry)) at (now (out .exit)) r ⌝ }
+{
+    if v < 10 {
+        return put_byte(48 + v as u8, out, at);
+    }
+    let p = put_decimal(v / 10, out, at);
+    put_byte(48 + (v % 10) as u8, out, p)
+}
+
+fn put_spaced(v: u32, out: &mut [u8], at: usize) -> usize
+    ensures { λ r. ⌜ Adds (spaced v) (now (out .entry)) at (now (out .exit)) r ⌝ }
+{
+    let p = put_byte(32, out, at);
+    put_decimal(v, out, p)
+}
+
+fn put_disks(xs: &[u8], out: &mut [u8], at: usize) -> usize
+    ensures { λ r. ⌜ Adds (spellAll spaced (now (xs .entry))) (now (out .entry)) at (now (out .exit)) r ⌝ }
+{
+    let mut p = at;
+    let mut i: usize = 0;
+    while i < xs.len() {
+        p = put_spaced(xs[i] as u32, out, p);
+        i += 1;
+    }
+    p
+}
+
+fn put_blocks(xs: &[u16], out: &mut [u8], at: usize) -> usize
+    ensures { λ r. ⌜ Adds (spellAll spaced (now (xs .entry))) (now (out .entry)) at (now (out .exit)) r ⌝ }
+{
+    let mut p = at;
+    let mut i: usize = 0;
+    while i < xs.len() {
+        p = put_spaced(xs[i] as u32, out, p);
+        i += 1;
+    }
+    p
+}
+
+// A digit below 16.
+fn digit(d: u8) -> u8
+    requires { ⌜ d < 16 ⌝ }
+    ensures { λ r. ⌜ r ≡ digitOf d ⌝ }
+{
+    if d < 10 { 48 + d } else { 87 + d }
+}
+
+fn put_pair(b: u8, out: &mut [u8], at: usize) -> usize
+    ensures { λ r. ⌜ Adds (pair b) (now (out .entry)) at (now (out .exit)) r ⌝ }
+{
+    let p = put_byte(digit(b / 16), out, at);
+    put_byte(digit(b % 16), out, p)
+}
+
+fn put_hex(xs: &[u8], out: &mut [u8], at: usize) -> usize
+    ensures { λ r. ⌜ Adds (hex (now (xs .entry))) (now (out .entry)) at (now (out .exit)) r ⌝ }
+{
+    let mut p = at;
+    let mut i: usize = 0;
+    while i < xs.len() {
+        p = put_pair(xs[i], out, p);
+        i += 1;
+    }
+    p
+}
+
+// A word, and the end of the line.
+fn plain(word: &[u8], out: &mut [u8]) -> usize
+    ensures { λ r. ⌜ Adds (now (word .entry) ++ feed) (now (out .entry)) 0 (now (out .exit)) r ⌝ }
+{
+    let p = put_text(word, out, 0);
+    put_byte(10, out, p)
+}
+
+// A word, a number, and the end of the line.
+fn numbered(word: &[u8], n: u32, out: &mut [u8]) -> usize
+    ensures { λ r. ⌜ Adds (now (word .entry) ++ (spaced n ++ feed)) (now (out .entry)) 0 (now (out .exit)) r ⌝ }
+{
+    let p = put_text(word, out, 0);
+    let q = put_spaced(n, out, p);
+    put_byte(10, out, q)
+}
+
+pub fn say(w: Word, line: &mut [u8; 24576]) -> usize
+    ensures { λ r. ⌜ Printed (spoken w) (now (line .entry)) r (now (line .exit)) ⌝ }
+{
+    match w {
+        Word::Rented => plain(b"rented", line),
+        Word::Set => plain(b"set", line),
+        Word::Returned => plain(b"returned", line),
+        Word::Refused(n) => numbered(b"refused", n, line),
+        Word::Stopped(n) => numbered(b"stopped", n, line),
+    }
+}
+
+// The line of a refusal.
+pub fn refuse(e: Refusal, line: &mut [u8; 24576]) -> usize
+    ensures { λ r. ⌜ Printed (spoken (Word.Refused (numberOf e))) (now (line .entry)) r (now (line .exit)) ⌝ }
+{
+    say(Word::Refused(field::number_of(e)), line)
+}
+
+// The fields before the lists.
+fn put_head(unit: u32, tenancy: u32, q: u32, time: u32, out: &mut [u8]) -> usize
+    ensures { λ r. ⌜ Adds (word-plan ++ spellAll spaced (unit ∷ tenancy ∷ q ∷ time ∷ [])) (now (out .entry)) 0 (now (out .exit)) r ⌝ }
+{
+    let a = put_text(b"plan", out, 0);
+    let b = put_spaced(unit, out, a);
+    let c = put_spaced(tenancy, out, b);
+    let d = put_spaced(q, out, c);
+    put_spaced(time, out, d)
+}
+
+// The two lists, and the end of the line.
+fn put_lists(disks: &[u8], short: &[u16], out: &mut [u8], at: usize) -> usize
+    ensures { λ r. ⌜ Adds (bar ++ (spellAll spaced (now (disks .entry)) ++ (bar ++ (spellAll spaced (now (short .entry)) ++ feed)))) (now (out .entry)) at (now (out .exit)) r ⌝ }
+{
+    let a = put_text(b" |", out, at);
+    let b = put_disks(disks, out, a);
+    let c = put_text(b" |", out, b);
+    let d = put_blocks(short, out, c);
+    put_byte(10, out, d)
+}
+
+// A plan's line; where a list has more than 1,024 entries, answers 0 and changes nothing.
+pub fn plan_line(
+    unit: u32,
+    tenancy: u32,
+    time: u32,
+    disks: &[u8],
+    short: &[u16],
+    line: &mut [u8; 24576],
+) -> usize
+    ensures { λ r. ⌜ Printed (planLine unit tenancy (record { time = time; disks = now (disks .entry); short = now (short .entry) })) (now (line .entry)) r (now (line .exit)) ⌝ }
+{
+    if 1024 < disks.len() {
+        return 0;
+    }
+    if 1024 < short.len() {
+        return 0;
+    }
+    let p = put_head(unit, tenancy, disks.len() as u32, time, line);
+    put_lists(disks, short, line, p)
+}
+
+// A plan sheet's line in hex; where the sheet has more than 4,096 bytes, answers 0 and changes nothing.
+pub fn sheet_line(sheet: &[u8], line: &mut [u8; 24576]) -> usize
+    ensures { λ r. ⌜ Printed (sheetLine (now (sheet .entry))) (now (line .entry)) r (now (line .exit)) ⌝ }
+{
+    if 4096 < sheet.len() {
+        return 0;
+    }
+    let a = put_text(b"plan ", line, 0);
+    let b = put_hex(sheet, line, a);
+    put_byte(10, line, b)
+}

@@ -1,0 +1,111 @@
+-- `serve`: one law for each call, whose sheet lies within the bytes.
+use borrow.Author.Needs.{needs}
+use native.Mathlib.Omega.{arith}
+use Rattle.service.proofs.Serving.{served-rent, served-set, served-request, served-return, served-stop, held-settings, held-request}
+use Rattle.service.proofs.serve.Statement.{statement}
+use Rattle.service.proofs.serve.Tie as tie
+
+read-call-requires : tie.Need-read-call-requires
+read-call-requires c κs = search needs
+
+enum-known-t : tie.Need-enum-known-t
+enum-known-t c = search needs
+
+rent-requires : tie.Need-rent-requires
+rent-requires c κs = search needs
+
+finish-requires : tie.Need-finish-requires
+finish-requires c κs = search needs
+
+enum-known-from : tie.Need-enum-known-from
+enum-known-from c = search needs
+
+sub-settings : tie.Need-sub-settings
+sub-settings c = omega (arith, held-settings (c .before .before .before .read-call .ensures) _ _ (c .before .from .given .1) .order)
+
+part-settings-start : tie.Need-part-settings-start
+part-settings-start c = held-settings (c .before .before .before .read-call .ensures) _ _ (c .before .from .given .1) .order
+
+part-settings-end : tie.Need-part-settings-end
+part-settings-end c = held-settings (c .before .before .before .read-call .ensures) _ _ (c .before .from .given .1) .end
+
+settings-requires : tie.Need-settings-requires
+settings-requires c κs = search needs
+
+finish-requires-2 : tie.Need-finish-requires-2
+finish-requires-2 c κs = search needs
+
+enum-known-room : tie.Need-enum-known-room
+enum-known-room c = search needs
+
+sub-request : tie.Need-sub-request
+sub-request c = omega (arith, held-request (c .before .before .before .read-call .ensures) _ _ _ (c .before .room .given .1) .0 .order)
+
+part-request-start : tie.Need-part-request-start
+part-request-start c = held-request (c .before .before .before .read-call .ensures) _ _ _ (c .before .room .given .1) .0 .order
+
+part-request-end : tie.Need-part-request-end
+part-request-end c = held-request (c .before .before .before .read-call .ensures) _ _ _ (c .before .room .given .1) .0 .end
+
+request-requires : tie.Need-request-requires
+request-requires c κs = (c .before .before .before .before .before .before .before .pre, held-request (c .before .before .before .before .before .read-call .ensures) _ _ _ (c .before .before .before .room .given .1) .1)
+
+enum-known-t-2 : tie.Need-enum-known-t-2
+enum-known-t-2 c = search needs
+
+give-back-requires : tie.Need-give-back-requires
+give-back-requires c κs = search needs
+
+finish-requires-3 : tie.Need-finish-requires-3
+finish-requires-3 c κs = search needs
+
+enum-known-e : tie.Need-enum-known-e
+enum-known-e c = search needs
+
+stop-requires : tie.Need-stop-requires
+stop-requires c κs = search needs
+
+returns : tie.Need-returns
+returns c = served-rent (c .before .before .before .before .before .before .read-call .ensures) (c .before .before .rent .result) _ _ (c .before .before .before .before .t .given .1) (c .before .before .rent .ensures) (c .finish .ensures)
+
+returns-2 : tie.Need-returns-2
+returns-2 c = served-set (c .before .before .before .before .before .before .before .read-call .ensures) (c .before .before .settings .result) _ _ (c .before .before .before .before .before .from .given .1) (c .before .before .settings .ensures) (c .finish2 .ensures)
+
+returns-3 : tie.Need-returns-3
+returns-3 c = served-request (c .before .before .before .before .before .before .read-call .ensures) _ _ _ (c .before .before .before .before .room .given .1) (c .request .ensures)
+
+returns-4 : tie.Need-returns-4
+returns-4 c = served-return (c .before .before .before .before .before .before .read-call .ensures) (c .before .before .give-back .result) _ _ (c .before .before .before .before .t2 .given .1) (c .before .before .give-back .ensures) (c .finish3 .ensures)
+
+returns-5 : tie.Need-returns-5
+returns-5 c = served-stop (c .before .before .before .before .before .read-call .ensures) _ (c .before .before .before .e .given .1) (c .stop .ensures)
+
+pub serve-spec : {M : Type 1} → statement M
+serve-spec =
+    tie.close
+    (tie.spec
+    read-call-requires
+    enum-known-t
+    rent-requires
+    finish-requires
+    enum-known-from
+    sub-settings
+    part-settings-start
+    part-settings-end
+    settings-requires
+    finish-requires-2
+    enum-known-room
+    sub-request
+    part-request-start
+    part-request-end
+    request-requires
+    enum-known-t-2
+    give-back-requires
+    finish-requires-3
+    enum-known-e
+    stop-requires
+    returns
+    returns-2
+    returns-3
+    returns-4
+    returns-5)

@@ -1,0 +1,239 @@
+-- Laws of sheets and calls framed in a stream of bytes: the answer in each case, and that there is no second.
+use mathlib.Core.Path.{_≡_, refl, sym, ap, _∙_, subst}
+use mathlib.Core.Bool.{true}
+use mathlib.Core.List.{List}
+use Prim.Native.Nat.{ℕ, _+_, _-_, _≤_, _<_}
+use native.Mathlib.Omega.{arith}
+use borrow.Author.Tests.{eq-eqb, ne-eqb, le-leb, lt-leb, leb-true, leb-false}
+use lib.Dec.{leb}
+use lib.ListN.{length, take, drop, length-drop}
+use lib.Seq.{length-take-le}
+use Rattle.number.specs.Decode.{Decoded, value, decode}
+use Rattle.number.specs.Decode.{refused as bad}
+use Rattle.number.proofs.Choice.{pick-true, pick-false, either}
+use Rattle.number.proofs.Decode.{decode-within}
+use Rattle.field.specs.declared.Refusal.{Refusal}
+use Rattle.field.specs.Field.{taken, number, inside}
+use Rattle.field.specs.Refusal.{numberOf}
+use Rattle.field.specs.Sheet.{Out, got, refused, Parser, _>>_, pure, require}
+use Rattle.field.proofs.Readers.{number-past, inside-got, inside-above, inside-stops}
+use Rattle.field.proofs.Sheet.{Step, bind-got, passed, pure-got, next, stops}
+use Rattle.field.proofs.Unique.{number-injective}
+use Rattle.stream.specs.declared.Span.{Span}
+use Rattle.stream.specs.declared.Span.the-variants.{Part}
+use Rattle.stream.specs.declared.Span.the-variants.{Refused as NoSheet}
+use Rattle.stream.specs.declared.Call.{Call}
+use Rattle.stream.specs.declared.Call.the-variants.{Rent, Settings, Request, Return, Refused}
+use Rattle.stream.specs.Frame.{bytes, sheet, part, Within, Spans}
+use Rattle.stream.specs.Call.{Asked, rents, returns, ofTenancy, ofSettings, ofRequest, none, behind, asked, toldCall, Held, Framed}
+
+-- ---- a number lies within the input
+
+ended-within : (s : List ℕ) (at v e : ℕ) (d : Decoded) → d ≡ decode (drop at s) → at ≤ length s → taken at d ≡ got v e → e ≤ length s
+unfolding taken
+ended-within s at v e (value w n) q l h =
+    let p : at + n ≡ e = cc in
+    omega (arith, decode-within (drop at s) w n (sym q), length-drop at s)
+ended-within s at v e (bad m) q l h = absurd (let z : _≡_ {A = ℕ} 0 1 = cc in omega arith)
+
+pub number-within : (s : List ℕ) (at v e : ℕ) → number s at ≡ got v e → e ≤ length s
+unfolding number
+number-within s at v e h =
+    either (leb at (length s))
+    (λ t. ended-within s at v e (decode (drop at s)) refl (leb-true _ _ t) h)
+    (λ f. absurd (let x : refused 1 ≡ got v e = sym (number-past s at (leb-false _ _ f)) ∙ h in let z : _≡_ {A = ℕ} 0 1 = cc in omega arith))
+
+-- a number that was taken is not above its range
+inside-high : (low high : ℕ) (s : List ℕ) (at v e : ℕ) → inside low high s at ≡ got v e → v ≤ high
+unfolding inside
+inside-high low high s at v e h =
+    let w : Step (number s at) (λ x n. (require (leb low x) 6 >> (require (leb x high) 6 >> pure x)) s n) v e = bind-got number s at v e (λ x. require (leb low x) 6 >> (require (leb x high) 6 >> pure x)) h in
+    let g : (leb low (w .found) ≡ true) × ((require (leb (w .found) high) 6 >> pure (w .found)) s (w .mid) ≡ got v e) = passed _ 6 _ s (w .mid) v e (w .last) in
+    let k : (leb (w .found) high ≡ true) × (pure (w .found) s (w .mid) ≡ got v e) = passed _ 6 _ s (w .mid) v e (g .1) in
+    omega (arith, leb-true (w .found) high (k .0), pure-got (w .found) v s (w .mid) e (k .1) .0)
+
+-- ---- a sheet
+
+module _ (s : List ℕ) (at n e : ℕ) (h : number s at ≡ got n e) where
+  pub sheet-large : 9229 < n → sheet s at ≡ refused 6
+  unfolding sheet
+  sheet-large l = stops (inside 0 9229) _ s at (inside-above s at n e h 0 9229 (omega arith) l)
+
+  module _ (l : n ≤ 9229) where
+    sheet-bytes : sheet s at ≡ bytes n s e
+    unfolding sheet
+    sheet-bytes = next (inside 0 9229) _ s at (inside-got s at n e h 0 9229 (omega arith) l)
+
+    pub sheet-past : length s - e < n → sheet s at ≡ refused 1
+    unfolding bytes
+    sheet-past p = sheet-bytes ∙ pick-false _ _ (lt-leb (e + n) (length s) (omega (arith, number-within s at n e h)))
+
+    pub sheet-spans : n ≤ length s - e → Spans s (sheet s at) (Part e (e + n))
+    unfolding Spans bytes part
+    sheet-spans p =
+        let w : e + n ≤ length s = omega (arith, number-within s at n e h) in
+        let k : n ≡ e + n - e = omega arith in (
+          sheet-bytes ∙ pick-true _ _ (le-leb (e + n) (length s) w) ∙ ap (λ (m : ℕ). got (take m (drop e s)) (e + n)) k,
+          record { order = omega arith; end = w },
+        )
+
+pub sheet-stops : (s : List ℕ) (at n : ℕ) → number s at ≡ refused n → sheet s at ≡ refused n
+unfolding sheet
+sheet-stops s at n h = stops (inside 0 9229) _ s at (inside-stops s at n h 0 9229)
+
+-- what was answered of a sheet
+pub spans-part : {s : List ℕ} {o : Out (List ℕ)} {x : Span} {from to : ℕ} → Spans s o x → x ≡ Part from to → (o ≡ got (part s from to) to) × Within s from to
+unfolding Spans
+spans-part {s} {o} {x} {from} {to} w q = subst (λ (y : Span). Spans s o y) q w
+
+pub spans-refused : (s : List ℕ) {o : Out (List ℕ)} {x : Span} {e : Refusal} → Spans s o x → x ≡ NoSheet e → o ≡ refused (numberOf e)
+unfolding Spans
+spans-refused s {o} {x} {e} w q = subst (λ (y : Span). Spans s o y) q w
+
+-- ---- the ways in which a call is answered
+
+pub framed-refused : {s : List ℕ} {o : Out Asked} (e : Refusal) → o ≡ refused (numberOf e) → Framed s o (Refused e)
+unfolding toldCall Held
+framed-refused e h = record { answer = sym h; held = tt }
+
+-- another reader that gives the same
+pub framed-same : {s : List ℕ} {o q : Out Asked} {r : Call} → q ≡ o → Framed s o r → Framed s q r
+framed-same {s} {o} {q} {r} e w = subst (λ (x : Out Asked). Framed s x r) (sym e) w
+
+module _ (s : List ℕ) (at : ℕ) where
+  -- a rent's or a return's tenancy
+  pub rent-framed : (t e : ℕ) → number s at ≡ got t e → Framed s (ofTenancy rents s at) (Rent t e)
+  unfolding ofTenancy pure toldCall Held
+  rent-framed t e h = record { answer = sym (next number _ s at h); held = tt }
+
+  pub return-framed : (t e : ℕ) → number s at ≡ got t e → Framed s (ofTenancy returns s at) (Return t e)
+  unfolding ofTenancy pure toldCall Held
+  return-framed t e h = record { answer = sym (next number _ s at h); held = tt }
+
+  pub tenancy-stops : (ask : ℕ → Asked) (x : Refusal) → number s at ≡ refused (numberOf x) → Framed s (ofTenancy ask s at) (Refused x)
+  unfolding ofTenancy
+  tenancy-stops ask x h = framed-refused x (stops number _ s at h)
+
+  -- the sheet of settings
+  pub settings-framed : (from to : ℕ) → (sheet s at ≡ got (part s from to) to) × Within s from to → Framed s (ofSettings s at) (Settings from to)
+  unfolding ofSettings pure toldCall Held
+  settings-framed from to p = record { answer = sym (next sheet _ s at (p .0)); held = p .1 }
+
+  pub settings-stops : (x : Refusal) → sheet s at ≡ refused (numberOf x) → Framed s (ofSettings s at) (Refused x)
+  unfolding ofSettings
+  settings-stops x h = framed-refused x (stops sheet _ s at h)
+
+  -- a request's room and sheet
+  pub request-framed : (room e from to : ℕ) → inside 0 4096 s at ≡ got room e → (sheet s e ≡ got (part s from to) to) × Within s from to → Framed s (ofRequest s at) (Request room from to)
+  unfolding ofRequest pure toldCall Held
+  request-framed room e from to h p = record { answer = sym (next (inside 0 4096) _ s at h ∙ next sheet _ s e (p .0)); held = (p .1, inside-high 0 4096 s at room e h) }
+
+  pub request-sheet-stops : (room e : ℕ) (x : Refusal) → inside 0 4096 s at ≡ got room e → sheet s e ≡ refused (numberOf x) → Framed s (ofRequest s at) (Refused x)
+  unfolding ofRequest
+  request-sheet-stops room e x h p = framed-refused x (next (inside 0 4096) _ s at h ∙ stops sheet _ s e p)
+
+  pub request-stops : (x : Refusal) → inside 0 4096 s at ≡ refused (numberOf x) → Framed s (ofRequest s at) (Refused x)
+  unfolding ofRequest
+  request-stops x h = framed-refused x (stops (inside 0 4096) _ s at h)
+
+  -- by the call's number
+  module _ (c : ℕ) {r : Call} where
+    pub first : c ≡ 1 → Framed s (ofTenancy rents s at) r → Framed s (behind c s at) r
+    unfolding behind
+    first q w = framed-same (ap (λ (p : Parser Asked). p s at) (pick-true _ _ (eq-eqb c 1 q))) w
+
+    module _ (n₁ : c ≡ 1 → ⊥) where
+      pub second : c ≡ 2 → Framed s (ofSettings s at) r → Framed s (behind c s at) r
+      unfolding behind
+      second q w = framed-same (ap (λ (p : Parser Asked). p s at) (pick-false _ _ (ne-eqb c 1 n₁) ∙ pick-true _ _ (eq-eqb c 2 q))) w
+
+      module _ (n₂ : c ≡ 2 → ⊥) where
+        pub third : c ≡ 3 → Framed s (ofRequest s at) r → Framed s (behind c s at) r
+        unfolding behind
+        third q w = framed-same (ap (λ (p : Parser Asked). p s at) (pick-false _ _ (ne-eqb c 1 n₁) ∙ pick-false _ _ (ne-eqb c 2 n₂) ∙ pick-true _ _ (eq-eqb c 3 q))) w
+
+        module _ (n₃ : c ≡ 3 → ⊥) where
+          pub fourth : c ≡ 4 → Framed s (ofTenancy returns s at) r → Framed s (behind c s at) r
+          unfolding behind
+          fourth q w = framed-same (ap (λ (p : Parser Asked). p s at) (pick-false _ _ (ne-eqb c 1 n₁) ∙ pick-false _ _ (ne-eqb c 2 n₂) ∙ pick-false _ _ (ne-eqb c 3 n₃) ∙ pick-true _ _ (eq-eqb c 4 q))) w
+
+  pub unknown-call : (c : ℕ) → (c ≡ 1 → ⊥) → (c ≡ 2 → ⊥) → (c ≡ 3 → ⊥) → (c ≡ 4 → ⊥) → (x : Refusal) → numberOf x ≡ 3 → Framed s (behind c s at) (Refused x)
+  unfolding behind none
+  unknown-call c n₁ n₂ n₃ n₄ x k = framed-refused x (ap (λ (p : Parser Asked). p s at) (pick-false _ _ (ne-eqb c 1 n₁) ∙ pick-false _ _ (ne-eqb c 2 n₂) ∙ pick-false _ _ (ne-eqb c 3 n₃) ∙ pick-false _ _ (ne-eqb c 4 n₄)) ∙ ap refused (sym k))
+
+-- the whole call
+pub call-framed : {s : List ℕ} {r : Call} (c e : ℕ) → number s 0 ≡ got c e → Framed s (behind c s e) r → Framed s (asked s 0) r
+unfolding asked
+call-framed {s} c e h w = framed-same (next number _ s 0 h) w
+
+pub call-stops : {s : List ℕ} (x : Refusal) → number s 0 ≡ refused (numberOf x) → Framed s (asked s 0) (Refused x)
+unfolding asked
+call-stops {s} x h = framed-refused x (stops number _ s 0 h)
+
+-- ---- there is no second answer
+
+-- parts of the same bytes that end at the same place begin at the same place
+part-from : (s : List ℕ) (a b e : ℕ) → Within s a e → Within s b e → part s a e ≡ part s b e → a ≡ b
+unfolding part
+part-from s a b e v w q =
+    let x : length (take (e - a) (drop a s)) ≡ e - a = length-take-le (e - a) (drop a s) (omega (arith, length-drop a s, v .order, v .end)) in
+    let y : length (take (e - b) (drop b s)) ≡ e - b = length-take-le (e - b) (drop b s) (omega (arith, length-drop b s, w .order, w .end)) in
+    omega (arith, ap length q, v .order, w .order)
+
+pub sheet-unique : (s : List ℕ) (o : Out (List ℕ)) (a b : Span) → Spans s o a → Spans s o b → a ≡ b
+unfolding Spans
+sheet-unique s o (Part c e) (Part f g) v w =
+    let q : got (part s c e) e ≡ got (part s f g) g = sym (v .0) ∙ w .0 in
+    let n : e ≡ g = cc in
+    let p : part s c e ≡ part s f g = cc in
+    let l : part s c e ≡ part s f e = p ∙ ap (part s f) (sym n) in
+    let m : c ≡ f = part-from s c f e (v .1) (rw n (w .1)) l in
+    cc
+sheet-unique s o (Part c e) (NoSheet y) v w = let q : got (part s c e) e ≡ refused (numberOf y) = sym (v .0) ∙ w in cc
+sheet-unique s o (NoSheet x) (Part f g) v w = let q : refused (numberOf x) ≡ got (part s f g) g = sym v ∙ w .0 in cc
+sheet-unique s o (NoSheet x) (NoSheet y) v w =
+    let q : refused (numberOf x) ≡ refused (numberOf y) = sym v ∙ w in
+    let n : numberOf x ≡ numberOf y = cc in
+    ap NoSheet (number-injective x y n)
+
+same : (s : List ℕ) (a b : Call) → toldCall s a ≡ toldCall s b → Held s a → Held s b → a ≡ b
+unfolding toldCall Held
+same s (Rent t e) (Rent u f) q h k = cc
+same s (Rent t e) (Settings f g) q h k = cc
+same s (Rent t e) (Request m f g) q h k = cc
+same s (Rent t e) (Return u f) q h k = cc
+same s (Rent t e) (Refused x) q h k = cc
+same s (Settings c e) (Rent u f) q h k = cc
+same s (Settings c e) (Settings f g) q h k =
+    let n : e ≡ g = cc in
+    let p : part s c e ≡ part s f g = cc in
+    let l : part s c e ≡ part s f e = p ∙ ap (part s f) (sym n) in
+    let m : c ≡ f = part-from s c f e h (rw n k) l in
+    cc
+same s (Settings c e) (Request m f g) q h k = cc
+same s (Settings c e) (Return u f) q h k = cc
+same s (Settings c e) (Refused x) q h k = cc
+same s (Request r c e) (Rent u f) q h k = cc
+same s (Request r c e) (Settings f g) q h k = cc
+same s (Request r c e) (Request m f g) q h k =
+    let i : r ≡ m = cc in
+    let n : e ≡ g = cc in
+    let p : part s c e ≡ part s f g = cc in
+    let l : part s c e ≡ part s f e = p ∙ ap (part s f) (sym n) in
+    let j : c ≡ f = part-from s c f e (h .0) (rw n (k .0)) l in
+    cc
+same s (Request r c e) (Return u f) q h k = cc
+same s (Request r c e) (Refused x) q h k = cc
+same s (Return t e) (Rent u f) q h k = cc
+same s (Return t e) (Settings f g) q h k = cc
+same s (Return t e) (Request m f g) q h k = cc
+same s (Return t e) (Return u f) q h k = cc
+same s (Return t e) (Refused x) q h k = cc
+same s (Refused x) (Rent u f) q h k = cc
+same s (Refused x) (Settings f g) q h k = cc
+same s (Refused x) (Request m f g) q h k = cc
+same s (Refused x) (Return u f) q h k = cc
+same s (Refused x) (Refused y) q h k = let n : numberOf x ≡ numberOf y = cc in ap Refused (number-injective x y n)
+
+pub call-unique : (s : List ℕ) (o : Out Asked) (a b : Call) → Framed s o a → Framed s o b → a ≡ b
+call-unique s o a b v w = same s a b (v .answer ∙ sym (w .answer)) (v .held) (w .held)

@@ -1,0 +1,111 @@
+// Framed in a stream of bytes: a sheet behind its length, and one of the shelf's calls.
+use field::Field;
+use field::Refusal;
+ghost use Rattle.stream.specs.Call.{asked, behind, rents, returns, ofTenancy, ofSettings, ofRequest, Framed};
+ghost use Rattle.stream.specs.Frame.{Spans};
+ghost use Rattle.stream.specs.Frame.{sheet as framedSheet};
+
+// Where a framed sheet stands, or why there is none.
+pub enum Span {
+    Part(usize, usize),
+    Refused(Refusal),
+}
+
+// What a call in the shelf's stream asks: where its sheet stands, and the place after the call.
+pub enum Call {
+    Rent(u32, usize),
+    Settings(usize, usize),
+    Request(usize, usize, usize),
+    Return(u32, usize),
+    Refused(Refusal),
+}
+
+// The length of a sheet, and that sheet.
+pub fn sheet(s: &[u8], at: usize) -> Span
+    ensures { λ r. ⌜ Spans (now (s .entry)) (framedSheet (now (s .entry)) at) r ⌝ }
+{
+    match field::any(s, at) {
+        Field::Got(n, next) => {
+            if 9229 < n {
+                return Span::Refused(Refusal::Range);
+            }
+            if s.len() - next < n as usize {
+                return Span::Refused(Refusal::Ends);
+            }
+            Span::Part(next, next + n as usize)
+        }
+        Field::Refused(e) => Span::Refused(e),
+    }
+}
+
+// The tenancy of a rent.
+fn rent(s: &[u8], at: usize) -> Call
+    ensures { λ r. ⌜ Framed (now (s .entry)) (ofTenancy rents (now (s .entry)) at) r ⌝ }
+{
+    match field::any(s, at) {
+        Field::Got(t, e) => Call::Rent(t, e),
+        Field::Refused(e) => Call::Refused(e),
+    }
+}
+
+// The sheet of a settings call.
+fn settings(s: &[u8], at: usize) -> Call
+    ensures { λ r. ⌜ Framed (now (s .entry)) (ofSettings (now (s .entry)) at) r ⌝ }
+{
+    match sheet(s, at) {
+        Span::Part(from, to) => Call::Settings(from, to),
+        Span::Refused(e) => Call::Refused(e),
+    }
+}
+
+// The room of a request, and its sheet.
+fn request(s: &[u8], at: usize) -> Call
+    ensures { λ r. ⌜ Framed (now (s .entry)) (ofRequest (now (s .entry)) at) r ⌝ }
+{
+    match field::ranged(s, at, 0, 4096) {
+        Field::Got(room, next) => match sheet(s, next) {
+            Span::Part(from, to) => Call::Request(room as usize, from, to),
+            Span::Refused(e) => Call::Refused(e),
+        },
+        Field::Refused(e) => Call::Refused(e),
+    }
+}
+
+// The tenancy of a return.
+fn give_back(s: &[u8], at: usize) -> Call
+    ensures { λ r. ⌜ Framed (now (s .entry)) (ofTenancy returns (now (s .entry)) at) r ⌝ }
+{
+    match field::any(s, at) {
+        Field::Got(t, e) => Call::Return(t, e),
+        Field::Refused(e) => Call::Refused(e),
+    }
+}
+
+// What follows the call's number.
+fn follow(s: &[u8], call: u32, at: usize) -> Call
+    ensures { λ r. ⌜ Framed (now (s .entry)) (behind call (now (s .entry)) at) r ⌝ }
+{
+    if call == 1 {
+        return rent(s, at);
+    }
+    if call == 2 {
+        return settings(s, at);
+    }
+    if call == 3 {
+        return request(s, at);
+    }
+    if call == 4 {
+        return give_back(s, at);
+    }
+    Call::Refused(Refusal::Kind)
+}
+
+// One call. Where it is refused with 1, more bytes may complete it.
+pub fn read_call(s: &[u8]) -> Call
+    ensures { λ r. ⌜ Framed (now (s .entry)) (asked (now (s .entry)) 0) r ⌝ }
+{
+    match field::any(s, 0) {
+        Field::Got(call, at) => follow(s, call, at),
+        Field::Refused(e) => Call::Refused(e),
+    }
+}

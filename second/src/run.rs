@@ -1,0 +1,136 @@
+//! A run of the shelf in words: `CALL -> LINE`, a call a line, for a reader and for both programs.
+//!
+//!     unit 7
+//!     rent 300 -> rented
+//!     settings 0107ac02 01 (040001)*1 -> set
+//!     request 15 0207ac02 00 -> plan 0307ac02000000
+//!     return 300 -> returned
+//!     bytes 05 -> stopped 3
+//!
+//! A sheet is hex, with spaces between its parts; (HEX)*N stands for N times HEX, and A..B for the numbers from A to B in
+//! sheet form. A plan may be written so as well.
+
+use crate::hex;
+use crate::number;
+use crate::shelf;
+
+/// The stream of bytes of a run, or the first call that this program answers with another line.
+pub fn stream(text: &str) -> Result<Vec<u8>, String> {
+    let mut stream = Vec::new();
+    let mut lines = Vec::new();
+    for line in text
+        .lines()
+        .map(str::trim)
+        .filter(|line| !line.is_empty() && !line.starts_with('#'))
+    {
+        let (call, answer) = line.split_once(" -> ").unwrap_or((line, ""));
+        stream.extend(bytes_of(call).ok_or_else(|| format!("not a call: {line}"))?);
+        if !answer.is_empty() {
+            lines.push((
+                line,
+                answer_of(answer).ok_or_else(|| format!("no answer: {line}"))?,
+            ));
+        }
+    }
+    let printed = String::from_utf8_lossy(&shelf::lines(&stream)).into_owned();
+    let found: Vec<&str> = printed.lines().collect();
+    for (at, (line, answer)) in lines.iter().enumerate() {
+        let other = found.get(at).copied().unwrap_or("nothing");
+        if other != answer {
+            return Err(format!("{line}\nfound: {other}"));
+        }
+    }
+    if found.len() != lines.len() {
+        return Err(format!("{} answers for {} calls", found.len(), lines.len()));
+    }
+    Ok(stream)
+}
+
+fn bytes_of(call: &str) -> Option<Vec<u8>> {
+    let (word, rest) = call.split_once(' ')?;
+    let mut bytes = Vec::new();
+    match word {
+        "unit" => bytes.extend(number::shortest(rest.parse().ok()?)),
+        "rent" => bytes.extend(numbers(&[1, rest.parse().ok()?])),
+        "return" => bytes.extend(numbers(&[4, rest.parse().ok()?])),
+        "settings" => {
+            let sheet = parts(rest)?;
+            bytes.extend(numbers(&[2, sheet.len() as u32]));
+            bytes.extend(sheet);
+        }
+        "request" => {
+            let (room, sheet) = rest.split_once(' ')?;
+            let sheet = parts(sheet)?;
+            bytes.extend(numbers(&[3, room.parse().ok()?, sheet.len() as u32]));
+            bytes.extend(sheet);
+        }
+        "bytes" => bytes.extend(parts(rest)?),
+        _ => return None,
+    }
+    Some(bytes)
+}
+
+fn numbers(values: &[u32]) -> Vec<u8> {
+    values
+        .iter()
+        .flat_map(|&value| number::shortest(value))
+        .collect()
+}
+
+/// `plan` and a sheet's parts, or the line as it is.
+fn answer_of(answer: &str) -> Option<String> {
+    match answer.strip_prefix("plan ") {
+        Some(sheet) => Some(format!("plan {}", hex::plain(&parts(sheet)?))),
+        None => Some(answer.to_string()),
+    }
+}
+
+fn parts(text: &str) -> Option<Vec<u8>> {
+    let mut bytes = Vec::new();
+    for part in text.split(' ') {
+        if let Some((low, high)) = part.split_once("..") {
+            for value in low.parse().ok()?..=high.parse().ok()? {
+                bytes.extend(number::shortest(value));
+            }
+        } else if let Some((once, times)) = repeated(part) {
+            bytes.extend(hex::read(once)?.repeat(times.parse().ok()?));
+        } else {
+            bytes.extend(hex::read(part)?);
+        }
+    }
+    Some(bytes)
+}
+
+fn repeated(part: &str) -> Option<(&str, &str)> {
+    part.strip_prefix('(')?.split_once(")*")
+}
+
+#[cfg(test)]
+mod tests {
+    use super::*;
+
+    #[test]
+    fn a_run_is_its_bytes() {
+        let run = "unit 7\nrent 300 -> rented\nreturn 300 -> returned\n";
+        assert_eq!(stream(run), Ok(vec![7, 1, 0xac, 2, 4, 0xac, 2]));
+    }
+
+    #[test]
+    fn another_answer_is_named() {
+        let run = "unit 7\nrent 300 -> refused 12\n";
+        assert_eq!(
+            stream(run),
+            Err("rent 300 -> refused 12\nfound: rented".to_string())
+        );
+    }
+
+    #[test]
+    fn a_repeated_part_is_written_out() {
+        assert_eq!(parts("07 (0102)*2 -"), Some(vec![7, 1, 2, 1, 2]));
+    }
+
+    #[test]
+    fn a_range_is_in_sheet_form() {
+        assert_eq!(parts("126..128"), Some(vec![126, 127, 128, 1]));
+    }
+}
