@@ -1,6 +1,6 @@
 pub mod Laws
 pub mod Masks
-pub mod Marks
+pub mod Ranks
 pub mod Turns
 pub mod Labels
 pub mod Steps

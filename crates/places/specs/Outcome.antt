@@ -15,19 +15,18 @@ use Rattle.places.specs.declared.Hit.{Hit}
 use Rattle.places.specs.declared.Hit.the-variants.{Free, Short}
 
 -- what the search takes
-pub record Seeking (n q from first : ℕ) (masks at by stamp : List ℕ) : Type 0 where
+pub record Seeking (n q from first : ℕ) (masks at by : List ℕ) : Type 0 where
   pub disks : n ≤ 64
   pub blocks : q ≤ 1024
   pub begins : first ≤ q
   pub seats : (b : ℕ) → b < q → getD at b 0 ≤ n
   pub kept : Kept n q from masks at
   pub labels : length by ≡ 64
-  pub stamps : length stamp ≡ 64
 
 -- a way to a disk that has room, or the reached disks where there is none
-unfoldable pub Sought : ℕ → ℕ → List ℕ → List ℕ → ℕ → List ℕ → List ℕ → Hit → Type 0
-Sought n q masks at room by stamp (Free d) = Way n q masks at by stamp d × (has room d ≡ true)
-Sought n q masks at room by stamp (Short x) = Stuck n q masks at (has room) x
+unfoldable pub Sought : ℕ → ℕ → List ℕ → List ℕ → ℕ → List ℕ → Hit → Type 0
+Sought n q masks at room by (Free d) = Way n q masks at by d × (has room d ≡ true)
+Sought n q masks at room by (Short x) = Stuck n q masks at (has room) x
 
 -- what one more block on a disk takes
 pub record Ready (n q from first : ℕ) (masks caps at loads : List ℕ) : Type 0 where

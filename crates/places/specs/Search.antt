@@ -3,19 +3,19 @@
 --     Inside           every disk of one mask is in another
 --     Linked, Settled  a block that belongs to the search; one that brings it no new disk
 --     Brings, Scanned  what the leaves of the search answer
---     Labelled, Reached   disks that a block labels: some; one that has room, or all
---     Label, Tree      how a disk was reached: by a block that is on none, or on a disk reached sooner
---     Way, Stuck       the two outcomes: a labelled way to a disk, or reached disks that are full and closed
---     Pulled           what the way back along the labels leaves
-use Prim.Native.Nat.{ℕ, _+_, _≤_, _<_}
+--     firstOf, rank, blockOf   the step at which a disk was reached, and the block of that step
+--     Noted, Label, Tree   how a disk was reached: by a block that is on none, or on a disk reached sooner
+--     Way, Stuck       the two outcomes: steps that lead to a disk, or reached disks that are full and closed
+--     Pulled           what the way back along the steps leaves
+use Prim.Native.Nat.{ℕ, zero, suc, _+_, _≤_, _<_}
 use mathlib.Core.Path.{_≡_}
 use mathlib.Core.Logic.{_⊎_}
-use mathlib.Core.Bool.{Bool, true, false, _&&_}
+use mathlib.Core.Bool.{Bool, true, false, not, _&&_}
 use mathlib.Core.List.{List}
-use lib.ListN.{getD, length}
+use lib.ListN.{getD}
 use lib.Dec.{ltb, eqb}
 use Rattle.mask.specs.Has.{has}
-use Rattle.model.specs.Count.{bit}
+use Rattle.model.specs.Count.{bit, gate}
 use Rattle.model.specs.Shortfall.{touches}
 use Rattle.model.specs.Closed.{Closed}
 use Rattle.places.specs.Places.{entry, holds, roomy, Placed}
@@ -54,36 +54,44 @@ pub record Scanned (n q b : ℕ) (masks at : List ℕ) (reached r : ℕ) : Type 
   pub quiet : (i : ℕ) → b ≤ i → i < r → Settled n masks at reached i
   pub found : r < q → Linked n (getD at r 0) reached × ((d : ℕ) × (holds masks r d ≡ true) × (has reached d ≡ false))
 
--- the disks of M now have block b as their label and x as their stamp; those of the others are as they were
-pub record Labelled (b x : ℕ) (M : ℕ → Bool) (by stamp by′ stamp′ : List ℕ) : Type 0 where
-  pub labels : length by′ ≡ length by
-  pub stamps : length stamp′ ≡ length stamp
-  pub block : (d : ℕ) → M d ≡ true → getD by′ d 0 ≡ b
-  pub mark : (d : ℕ) → M d ≡ true → getD stamp′ d 0 ≡ x
-  pub same-block : (d : ℕ) → M d ≡ false → getD by′ d 0 ≡ getD by d 0
-  pub same-mark : (d : ℕ) → M d ≡ false → getD stamp′ d 0 ≡ getD stamp d 0
+-- the first of k places that passes a test, or k
+unfoldable pub firstOf : (ℕ → Bool) → ℕ → ℕ
+firstOf p zero = 0
+firstOf p (suc k) = gate (not (p 0)) (suc (firstOf (λ j. p (suc j)) k))
 
--- disk r of m has room and is labelled; or no disk of m has room, and all are labelled
-pub record Reached (b x m room : ℕ) (by stamp by′ stamp′ : List ℕ) (r : ℕ) : Type 0 where
-  pub free : r < 64 → (has m r ≡ true) × (has room r ≡ true) × Labelled b x (λ e. eqb e r) by stamp by′ stamp′
-  pub full : 64 ≤ r → ((d : ℕ) → has m d ≡ true → has room d ≡ false) × Labelled b x (has m) by stamp by′ stamp′
+-- by has the block of each step; the first step whose block has a copy on disk d
+unfoldable pub rank : List ℕ → List ℕ → ℕ → ℕ
+rank masks by d = firstOf (λ j. holds masks (getD by j 0) d) 64
+
+-- the block of that step
+unfoldable pub blockOf : List ℕ → List ℕ → ℕ → ℕ
+blockOf masks by d = getD by (rank masks by d) 0
+
+-- some step has a copy on disk d, and it and those before are of blocks
+pub record Noted (masks by : List ℕ) (d : ℕ) : Type 0 where
+  pub k : ℕ
+  pub step : k < 64
+  pub copy : holds masks (getD by k 0) d ≡ true
+  pub blocks : (j : ℕ) → j ≤ k → getD by j 0 < 1024
 
 -- disk d was reached by a copy of a block that is on no disk, or on one that was reached sooner
-pub record Label (n q : ℕ) (masks at by stamp : List ℕ) (X : ℕ → Bool) (d : ℕ) : Type 0 where
+pub record Label (n q : ℕ) (masks at by : List ℕ) (X : ℕ → Bool) (d : ℕ) : Type 0 where
   pub disk : d < n
-  pub block : getD by d 0 < q
-  pub copy : holds masks (getD by d 0) d ≡ true
-  pub parent : (getD at (getD by d 0) 0 ≡ n)
-      ⊎ ((X (getD at (getD by d 0) 0) ≡ true) × (getD stamp (getD at (getD by d 0) 0) 0 < getD stamp d 0))
+  pub step : rank masks by d < 64
+  pub block : blockOf masks by d < q
+  pub blocks : (j : ℕ) → j < rank masks by d → getD by j 0 < q
+  pub copy : holds masks (blockOf masks by d) d ≡ true
+  pub parent : (getD at (blockOf masks by d) 0 ≡ n)
+      ⊎ ((X (getD at (blockOf masks by d) 0) ≡ true) × (rank masks by (getD at (blockOf masks by d) 0) < rank masks by d))
 
 -- every disk of X has its label
-abbrev pub Tree : ℕ → ℕ → List ℕ → List ℕ → List ℕ → List ℕ → (ℕ → Bool) → Type 0
-Tree n q masks at by stamp X = (d : ℕ) → X d ≡ true → Label n q masks at by stamp X d
+abbrev pub Tree : ℕ → ℕ → List ℕ → List ℕ → List ℕ → (ℕ → Bool) → Type 0
+Tree n q masks at by X = (d : ℕ) → X d ≡ true → Label n q masks at by X d
 
 -- labels lead from disk d back to a block that is on no disk
-pub record Way (n q : ℕ) (masks at by stamp : List ℕ) (d : ℕ) : Type 0 where
+pub record Way (n q : ℕ) (masks at by : List ℕ) (d : ℕ) : Type 0 where
   pub X : ℕ → Bool
-  pub tree : Tree n q masks at by stamp X
+  pub tree : Tree n q masks at by X
   pub here : X d ≡ true
 
 -- the reached disks x have no room, the blocks on them and on none have all copies there, and every closed set touches them

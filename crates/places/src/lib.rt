@@ -2,11 +2,10 @@
 // at[b] is the disk of block b, or n for none; loads[d] counts the blocks at d, n included.
 ghost use mathlib.Core.Path.{_≡_};
 ghost use Prim.Native.Nat.{ℕ, _<_, _≤_};
-ghost use lib.ListN.{length, getD};
-ghost use Rattle.mask.specs.Has.{has};
+ghost use lib.ListN.{getD};
 ghost use Rattle.model.specs.Assignment.{Within};
 ghost use Rattle.places.specs.Places.{entry, Placed, Movable, Moved, Empty, Cleared};
-ghost use Rattle.places.specs.Search.{Open, OpenBut, Brings, Scanned, Labelled, Reached, Way, Pulled};
+ghost use Rattle.places.specs.Search.{Open, OpenBut, Brings, Scanned, rank, Noted, Way, Pulled};
 ghost use Rattle.places.specs.Outcome.{Seeking, Sought, Ready, Improved, Filled};
 
 // What the search yields: a disk that has room, or the reached disks, all full.
@@ -84,43 +83,7 @@ fn scan(n: usize, q: usize, b: usize, masks: &[u64; 1024], at: &[u8; 1024], reac
     i
 }
 
-// Each disk of m gets block b as its label, and what was reached before as its stamp.
-fn mark(b: usize, m: u64, reached: u64, by: &mut [u16; 64], stamp: &mut [u64; 64])
-    requires { ⌜ (b < 1024) × (length (now by) ≡ 64) × (length (now stamp) ≡ 64) ⌝ }
-    ensures { λ _. ⌜ Labelled b reached (has m) (now (by .entry)) (now (stamp .entry)) (now (by .exit)) (now (stamp .exit)) ⌝ }
-{
-    let mut rest = m;
-    while rest != 0 {
-        let d = mask::lowest(rest);
-        by[d] = b as u16;
-        stamp[d] = reached;
-        rest = mask::clear(rest, d);
-    }
-}
-
-// Block b brings the disks of m: the lowest that has room, which is the answer, or all of them where none has, and then the answer is 64.
-fn reach(
-    b: usize,
-    m: u64,
-    room: u64,
-    reached: u64,
-    by: &mut [u16; 64],
-    stamp: &mut [u64; 64],
-) -> usize
-    requires { ⌜ (b < 1024) × (length (now by) ≡ 64) × (length (now stamp) ≡ 64) ⌝ }
-    ensures { λ r. ⌜ Reached b reached m room (now (by .entry)) (now (stamp .entry)) (now (by .exit)) (now (stamp .exit)) r ⌝ }
-{
-    let d = mask::lowest(mask::both(m, room));
-    if d < 64 {
-        by[d] = b as u16;
-        stamp[d] = reached;
-        return d;
-    }
-    mark(b, m, reached, by, stamp);
-    64
-}
-
-// From the blocks on no disk, over the disks of their copies and the blocks there, to a disk with room.
+// From the blocks on no disk, over the disks of their copies and the blocks there, to a disk with room. A step takes all new disks of a block, which by notes.
 fn seek(
     n: usize,
     q: usize,
@@ -130,11 +93,11 @@ fn seek(
     at: &[u8; 1024],
     room: u64,
     by: &mut [u16; 64],
-    stamp: &mut [u64; 64],
 ) -> Hit
-    requires { ⌜ Seeking n q from first (now masks) (now at) (now by) (now stamp) ⌝ }
-    ensures { λ r. ⌜ Sought n q (now (masks .entry)) (now (at .entry)) room (now (by .exit)) (now (stamp .exit)) r ⌝ }
+    requires { ⌜ Seeking n q from first (now masks) (now at) (now by) ⌝ }
+    ensures { λ r. ⌜ Sought n q (now (masks .entry)) (now (at .entry)) room (now (by .exit)) r ⌝ }
 {
+    let mut steps = 0;
     let mut reached: u64 = 0;
     let mut again = true;
     let mut b = first;
@@ -149,7 +112,9 @@ fn seek(
             }
         } else {
             let fresh = mask::without(masks[b], reached);
-            let d = reach(b, fresh, room, reached, by, stamp);
+            by[steps] = b as u16;
+            steps += 1;
+            let d = mask::lowest(mask::both(fresh, room));
             if d < 64 {
                 break 'search Hit::Free(d);
             }
@@ -160,23 +125,35 @@ fn seek(
     hit
 }
 
-// Back along the labels from a disk with room: each turn fills it and makes room on the next.
+// The step at which disk d was reached: the first whose block has a copy there.
+fn step_of(d: usize, masks: &[u64; 1024], by: &[u16; 64]) -> usize
+    requires { ⌜ Noted (now masks) (now by) d ⌝ }
+    ensures { λ r. ⌜ r ≡ rank (now (masks .entry)) (now (by .entry)) d ⌝ }
+{
+    let mut k = 0;
+    while !mask::test(masks[by[k] as usize], d) {
+        k += 1;
+    }
+    k
+}
+
+// Back along the steps from a disk with room: each turn fills it and makes room on the next.
 fn pull(
     n: usize,
     q: usize,
     start: usize,
     masks: &[u64; 1024],
     by: &[u16; 64],
-    stamp: &[u64; 64],
     at: &mut [u8; 1024],
     loads: &mut [u32; 65],
 )
-    requires { ⌜ (Placed n q (now masks) (now at) (now loads)) × (Way n q (now masks) (now at) (now by) (now stamp) start) ⌝ }
+    requires { ⌜ (Placed n q (now masks) (now at) (now loads)) × (Way n q (now masks) (now at) (now by) start) ⌝ }
     ensures { λ _. ⌜ Pulled n q start (now (masks .entry)) (now (loads .entry)) (now (at .exit)) (now (loads .exit)) ⌝ }
 {
     let mut d = start;
     while d != n {
-        d = shift(by[d] as usize, d, at, loads);
+        let k = step_of(d, masks, by);
+        d = shift(by[k] as usize, d, at, loads);
     }
 }
 
@@ -197,11 +174,10 @@ pub fn improve(
     ensures { λ r. ⌜ Improved n q (now (masks .entry)) (now (caps .entry)) (now (at .entry)) (now (loads .entry)) (now (at .exit)) (now (loads .exit)) r ⌝ }
 {
     let mut by = [0u16; 64];
-    let mut stamp = [0u64; 64];
-    let hit = seek(n, q, from, first, masks, at, room, &mut by, &mut stamp);
+    let hit = seek(n, q, from, first, masks, at, room, &mut by);
     match hit {
         Hit::Free(d) => {
-            pull(n, q, d, masks, &by, &stamp, at, loads);
+            pull(n, q, d, masks, &by, at, loads);
             Hit::Free(d)
         }
         Hit::Short(x) => Hit::Short(x),

@@ -1,19 +1,21 @@
--- `call`: a turn keeps a sound unit sound.
+-- `call`: a turn keeps a sound unit sound, and its line lies within its buffer.
 use borrow.Author.Needs.{needs}
 use native.Mathlib.Omega.{arith}
 use lib.Seq.{length-take-le}
 use mathlib.Core.Path.{sym}
+use Rattle.line.proofs.Adding.{printed-within}
+use Rattle.service.proofs.Serving.{served-sound}
 use Rattle.shelf.proofs.call.Statement.{statement}
 use Rattle.shelf.proofs.call.Tie as tie
 
-slice-reshare-prefix-turn : tie.Need-slice-reshare-prefix-turn
-slice-reshare-prefix-turn c = search needs
+slice-reshare-prefix-serve : tie.Need-slice-reshare-prefix-serve
+slice-reshare-prefix-serve c = search needs
 
-slice-aggregate-turn : tie.Need-slice-aggregate-turn
-slice-aggregate-turn c = sym (length-take-le _ _ (omega arith))
+slice-aggregate-serve : tie.Need-slice-aggregate-serve
+slice-aggregate-serve c = sym (length-take-le _ _ (omega arith))
 
-turn-requires : tie.Need-turn-requires
-turn-requires c κs = search needs
+serve-requires : tie.Need-serve-requires
+serve-requires c κs = search needs
 
 more-requires : tie.Need-more-requires
 more-requires c κs = search needs
@@ -25,21 +27,21 @@ returns : tie.Need-returns
 returns c = search needs
 
 rest-requires : tie.Need-rest-requires
-rest-requires c κs = search needs
+rest-requires c κs = (served-sound (c .before .before .before .serve .result) (c .before .before .before .before .before .before .before .before .pre .0) (c .before .before .before .serve .ensures), c .before .before .before .before .before .before .before .before .pre .1)
 
 same-length-2 : tie.Need-same-length-2
 same-length-2 c = search needs
 
 returns-2 : tie.Need-returns-2
-returns-2 c = search needs
+returns-2 c = (c .before .before .rest .ensures .0, c .before .before .rest .ensures .1, omega (arith, c .before .before .rest .ensures .2, printed-within (c .before .before .before .before .before .before .serve .ensures .printed)))
 
 pub call-spec : {M : Type 1} → statement M
 call-spec =
     tie.close
     (tie.spec
-    slice-reshare-prefix-turn
-    slice-aggregate-turn
-    turn-requires
+    slice-reshare-prefix-serve
+    slice-aggregate-serve
+    serve-requires
     more-requires
     same-length
     returns

@@ -1,0 +1,83 @@
+-- The engine on the figure P5, where all three blocks are short as well: the short set is block 0 alone.
+use Prim.Native.Nat.{ℕ, zero, suc, _+_, _≤_, _<_}
+use mathlib.Core.Bool.{Bool, or-false}
+use mathlib.Core.List.{List, [], _∷_}
+use mathlib.Core.Path.{_≡_, refl, ap₂, _∙_, fun-ext, subst}
+use native.Mathlib.Omega.{arith}
+use lib.Dec.{eqb}
+use lib.ListN.{getD}
+use Rattle.model.specs.Case.{Case, base}
+use Rattle.model.specs.Count.{any}
+use Rattle.model.specs.Figures.{isOn, asked}
+use Rattle.model.specs.Plan.{Plan}
+use Rattle.engine.specs.Planned.{listed, Planned}
+use Rattle.engine.specs.Spelled.{spelled}
+use Rattle.vectors.proofs.Figures.{join, same-copies, swap, copies-p5, P5}
+
+-- ---- the figure P5, spelled with masks and starts
+
+-- 4 is disk 2, 1 is disk 0
+abbrev copies : List ℕ
+copies = 4 ∷ 1 ∷ 1 ∷ []
+
+abbrev costs : List ℕ
+costs = 4 ∷ 3 ∷ 10 ∷ []
+
+-- a disk starts at delay plus load
+abbrev starts : List ℕ
+starts = 1 ∷ 2 ∷ 0 ∷ []
+
+-- a buffer before, the disks and the short set after
+abbrev blank : List ℕ
+blank = 99 ∷ 99 ∷ 99 ∷ []
+
+abbrev disks : List ℕ
+disks = 2 ∷ 0 ∷ 0 ∷ []
+
+abbrev short : List ℕ
+short = 0 ∷ 99 ∷ 99 ∷ []
+
+same-starts : (d : ℕ) → getD (1 ∷ 0 ∷ 0 ∷ []) d 0 + getD (0 ∷ 2 ∷ 0 ∷ []) d 0 ≡ getD starts d 0
+same-starts zero = refl
+same-starts (suc zero) = refl
+same-starts (suc (suc zero)) = refl
+same-starts (suc (suc (suc d))) = refl
+
+same-case : asked copies-p5 ≡ spelled copies costs starts
+unfolding asked base join
+same-case =
+    ap₂ (λ (s : ℕ → ℕ) (h : ℕ → ℕ → Bool). record { disks = 3; blocks = 3; start = s; cost = λ d. getD costs d 0; copy = h })
+    (fun-ext same-starts) (fun-ext (λ b. fun-ext (same-copies copies-p5 b)))
+
+same-set : (b : ℕ) → isOn (0 ∷ []) b ≡ listed short 1 b
+unfolding isOn listed any
+same-set b = or-false (eqb b 0) ∙ swap 0 b
+
+-- ---- plan
+
+-- R is 10, the disks are 2 0 0, the short set is block 0; its buffer is as it was beyond that
+plan-p5 : Planned copies costs starts blank blank (2 ∷ 0 ∷ 0 ∷ []) (0 ∷ 99 ∷ 99 ∷ []) (record { time = 10; size = 1 })
+plan-p5 =
+    record {
+      plan =
+          subst (λ (m : Case). Plan m 10 (λ b. getD disks b 0) (listed short 1)) same-case
+          (subst (λ (S : ℕ → Bool). Plan (asked copies-p5) 10 (λ b. getD disks b 0) S) (fun-ext same-set) P5);
+      set = record { few = omega arith; below = below; rising = λ i j h l. absurd (omega arith); short-rest = rest; short-long = refl };
+      disks-rest = none;
+      disks-long = refl;
+      time-most = omega arith;
+    }
+  where
+    below : (i : ℕ) → i < 1 → getD short i 0 < 3
+    below zero h = omega arith
+    below (suc i) h = absurd (omega arith)
+
+    rest : (i : ℕ) → 1 ≤ i → getD short i 0 ≡ getD blank i 0
+    rest zero h = absurd (omega arith)
+    rest (suc i) h = refl
+
+    none : (b : ℕ) → 3 ≤ b → getD disks b 0 ≡ getD blank b 0
+    none zero h = absurd (omega arith)
+    none (suc zero) h = absurd (omega arith)
+    none (suc (suc zero)) h = absurd (omega arith)
+    none (suc (suc (suc b))) h = refl

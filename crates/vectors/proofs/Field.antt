@@ -1,0 +1,88 @@
+-- Fields of a sheet: the refusal numbers, what each reader refuses, and a field put into a lent buffer.
+use mathlib.Core.Path.{_≡_, refl}
+use mathlib.Core.List.{[], _∷_, map}
+use Rattle.field.specs.declared.Refusal.the-variants.{Ends, Malformed, Kind, Unit, Tenancy, Range, NoCopies, NotRising, Extra, NoSettings, NoRoom, Rented, NotAbove, NotTenant}
+use Rattle.field.specs.Field.{number, exactly, tenancy, inside, rising, end}
+use Rattle.field.specs.Put.{Put}
+use Rattle.field.specs.Refusal.{numberOf}
+use Rattle.field.specs.Sheet.{got, refused}
+use Rattle.vectors.specs.Text.{bytes}
+use Rattle.vectors.proofs.Opened.{field-opened}
+
+-- ---- the refusals
+
+-- document 01's table of refusal numbers, in its order
+refusal-numbers :
+    map numberOf (Ends ∷ Malformed ∷ Kind ∷ Unit ∷ Tenancy ∷ Range ∷ NoCopies ∷ NotRising ∷ Extra ∷ NoSettings ∷ NoRoom ∷ Rented ∷ NotAbove ∷ NotTenant ∷ [])
+    ≡ 1 ∷ 2 ∷ 3 ∷ 4 ∷ 5 ∷ 6 ∷ 7 ∷ 8 ∷ 9 ∷ 10 ∷ 11 ∷ 12 ∷ 13 ∷ 14 ∷ []
+unfolding field-opened
+refusal-numbers = refl
+
+-- ---- any
+
+-- a number at a place, and the place after it
+any-read : number (bytes "01 AC 02 05") 1 ≡ got 300 3
+unfolding field-opened
+any-read = refl
+
+-- the sheet ends before a number that is due
+any-at-the-end : number (bytes "01 AC 02") 3 ≡ refused 1
+unfolding field-opened
+any-at-the-end = refl
+
+-- ---- exact
+
+-- another kind gets the refusal that was given
+exact-other : exactly 2 3 (bytes "01 07") 0 ≡ refused 3
+unfolding field-opened
+exact-other = refl
+
+-- 1 comes before its own check
+exact-ends : exactly 2 3 (bytes "81") 0 ≡ refused 1
+unfolding field-opened
+exact-ends = refl
+
+-- ---- tenant
+
+-- the tenancy before the one that is wanted
+tenant-other : tenancy 300 (bytes "AB 02") 0 ≡ refused 5
+unfolding field-opened
+tenant-other = refl
+
+-- no tenancy is 0: where 0 is expected every number is refused with 5
+tenant-0 : tenancy 0 (bytes "00") 0 ≡ refused 5
+unfolding field-opened
+tenant-0 = refl
+
+-- ---- ranged
+
+-- the low end of 1 to 64
+ranged-low : inside 1 64 (bytes "01") 0 ≡ got 1 1
+unfolding field-opened
+ranged-low = refl
+
+-- one above the high end
+ranged-above : inside 1 64 (bytes "41") 0 ≡ refused 6
+unfolding field-opened
+ranged-above = refl
+
+-- ---- risen
+
+-- 1 again, after 1
+risen-again : rising 2 5 (bytes "01") 0 ≡ refused 8
+unfolding field-opened
+risen-again = refl
+
+-- ---- finish
+
+-- a byte follows the last field
+finish-extra : end (bytes "01 02") 1 ≡ refused 9
+unfolding field-opened
+finish-extra = refl
+
+-- ---- put
+
+-- 300 at place 1, all else as it was
+put-300 : Put 300 (bytes "AA BB CC DD") 1 3 (bytes "AA AC 02 DD")
+unfolding field-opened
+put-300 = record { place = refl; held = refl }

@@ -1,0 +1,14 @@
+mod Opened
+mod Number
+mod Field
+mod Settings
+mod Request
+mod Plan
+mod Unit
+mod Desk
+mod Line
+mod Call
+mod Program
+mod Figures
+mod Example
+mod Engine

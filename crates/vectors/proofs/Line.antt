@@ -1,0 +1,29 @@
+-- The lines that the programs print.
+use mathlib.Core.Path.{_≡_, refl}
+use Rattle.line.specs.declared.Word.the-variants.{Refused}
+use Rattle.line.specs.Line.{spoken, planLine, sheetLine}
+use Rattle.vectors.specs.Text.{ascii}
+use Rattle.vectors.proofs.Opened.{line-opened}
+use Rattle.vectors.proofs.Plan.{plan}
+use Rattle.vectors.proofs.Plan.{example as sheet}
+
+-- ---- say
+
+-- a refusal and its number, after a single space
+refused-6 : spoken (Refused 6) ≡ ascii "refused 6\n"
+unfolding line-opened
+refused-6 = refl
+
+-- ---- plan_line
+
+-- document 01's line
+plan-example : planLine 7 300 plan ≡ ascii "plan 7 300 4 9 | 0 0 1 1 | 0 1 2 3\n"
+unfolding line-opened
+plan-example = refl
+
+-- ---- sheet_line
+
+-- a plan sheet's bytes in hex
+sheet-example : sheetLine sheet ≡ ascii "plan 0307ac020409000001010400010203\n"
+unfolding line-opened
+sheet-example = refl

@@ -1,0 +1,95 @@
+-- What is opened so that a worked answer computes, crate by crate: each name stands for the definitions on its line.
+use Rattle.number.specs.Choice.{pick}
+use Rattle.number.specs.Decode.{under, more, decode}
+use Rattle.number.specs.Encode.{encodeBy, encode, widthOf, fits, written, putFirst}
+use Rattle.field.specs.Sheet.{andThen, _>>=_, _>>_, pure, require, times}
+use Rattle.field.specs.Field.{taken, number, exactly, tenancy, inside, rising, climb, end, whole, opening}
+use Rattle.field.specs.Put.{spellAll, paste, hasRoom, openingBytes}
+use Rattle.field.specs.Refusal.{numberOf}
+use Rattle.field.specs.Send.{toldWritten, answerTo, leftBy}
+use Rattle.settings.specs.Draft.{rowsOf, headBytes, sheetBytes, even, settingsDraft}
+use Rattle.settings.specs.Row.{row, inRange, allInRange, rowBytes}
+use Rattle.settings.specs.Sheet.{fields, settingsSheet}
+use Rattle.settings.specs.Table.{padded, table, noTable}
+use Rattle.settings.specs.Told.{tableOf}
+use Rattle.mask.specs.Has.{has}
+use Rattle.mask.specs.Count.{bit, members}
+use Rattle.request.specs.Disks.{maskOf, disksBelow, disksOf}
+use Rattle.request.specs.Draft.{blockBytes, headingBytes, requestBytes, checked, requestDraft}
+use Rattle.request.specs.Request.{lastDisk, block, heading, requestSheet}
+use Rattle.plan.specs.Draft.{planNumbers, planBytes, planDraft}
+use Rattle.plan.specs.Draft.{counted as countedPlan}
+use Rattle.plan.specs.Plan.{ifAny, timeOf, sizeOf, listsOf, planFields, planSheet}
+use Rattle.plan.specs.Receive.{roomFor, settle, heads, over, disksLeft, shortLeft}
+use Rattle.plan.specs.Told.{toldPlan}
+use Rattle.unit.specs.Life.{takes, refuses, rent, settled, set, giveBack}
+use Rattle.unit.specs.Request.{Replied}
+use Rattle.unit.specs.Unit.{newUnit, tenancyOf, tenanted, withTable, returned}
+use Rattle.desk.specs.Desk.{settingsDraftOfBytes, requestDraftOfBytes, planOf, setLeft}
+use Rattle.desk.specs.Numbers.{valueOf, bytesOf, firstNumbers, numbers, broken}
+use Rattle.desk.specs.Packed.{packPlan, readerAnswer}
+use Rattle.line.specs.Text.{digit, digitsBy, decimal, spaced, pair, hex}
+use Rattle.line.specs.Line.{feed, word-returned, word-refused, word-stopped, word-plan, bar, spoken, planText, planLine, sheetLine}
+use Rattle.stream.specs.Frame.{sheet}
+use Rattle.stream.specs.Frame.{bytes as framed}
+use Rattle.stream.specs.Call.{ofTenancy, ofSettings, ofRequest, none, behind, asked}
+use Rattle.console.specs.Bench.{judge, accept, close, hire, benchInput, Replies, Asks, Line}
+use Rattle.console.specs.Bench.{settle as settleInput}
+use Rattle.service.specs.Shelf.{verdictLine, sentLine, stopLine, Sheets, Does, Serves}
+use Rattle.vectors.specs.Text.{bytes, ascii}
+use Rattle.vectors.specs.Text.{digit as hexDigit}
+
+unfoldable pub number-opened : Type 0
+unfolding pick under more decode encodeBy encode widthOf fits written putFirst bytes hexDigit
+number-opened = Unit
+
+unfoldable pub field-opened : Type 0
+unfolding
+    number-opened andThen _>>=_ _>>_ pure require times taken number exactly tenancy inside rising climb end whole opening
+    spellAll paste hasRoom openingBytes numberOf toldWritten answerTo leftBy
+field-opened = Unit
+
+unfoldable pub settings-opened : Type 0
+unfolding
+    field-opened rowsOf headBytes sheetBytes even settingsDraft row inRange allInRange rowBytes fields settingsSheet
+    padded table noTable tableOf
+settings-opened = Unit
+
+unfoldable pub request-opened : Type 0
+unfolding
+    field-opened has bit members maskOf disksBelow disksOf blockBytes headingBytes requestBytes checked requestDraft
+    lastDisk block heading requestSheet
+request-opened = Unit
+
+unfoldable pub plan-opened : Type 0
+unfolding
+    field-opened planNumbers planBytes countedPlan planDraft ifAny timeOf sizeOf listsOf planFields planSheet
+    roomFor settle heads over disksLeft shortLeft toldPlan
+plan-opened = Unit
+
+unfoldable pub unit-opened : Type 0
+unfolding
+    settings-opened request-opened takes refuses rent settled set giveBack Replied newUnit tenancyOf tenanted withTable returned
+unit-opened = Unit
+
+unfoldable pub desk-opened : Type 0
+unfolding
+    settings-opened request-opened plan-opened settingsDraftOfBytes requestDraftOfBytes planOf setLeft
+    valueOf bytesOf firstNumbers numbers broken packPlan readerAnswer
+desk-opened = Unit
+
+unfoldable pub line-opened : Type 0
+unfolding
+    plan-opened digit digitsBy decimal spaced pair hex feed word-returned word-refused word-stopped
+    word-plan bar spoken planText planLine sheetLine ascii
+line-opened = Unit
+
+unfoldable pub stream-opened : Type 0
+unfolding field-opened framed sheet ofTenancy ofSettings ofRequest none behind asked
+stream-opened = Unit
+
+unfoldable pub program-opened : Type 0
+unfolding
+    unit-opened line-opened stream-opened judge accept close hire settleInput benchInput Replies Asks Line
+    verdictLine sentLine stopLine Sheets Does Serves
+program-opened = Unit
