@@ -5,7 +5,7 @@
 # make compare   20,000 inputs to each program and to the second program
 # make edits     every wrong program and wrong promise on file, those that `make test` leaves out among them
 # make race      the benchmark against LEMON; `race/run docs` also puts its tables into docs/SPEED.md
-.PHONY: plan test programs library tools hire second second-tests stored-runs host-tests compared compare edits race
+.PHONY: plan test halves programs library tools hire second second-tests stored-runs host-tests compared compare edits race
 
 SECOND := $(CURDIR)/target/second/release/second
 LIBRARY := $(CURDIR)/target/staticlib/libdesk.a
@@ -19,15 +19,21 @@ plan:
 	rt check bench >target/plan.log 2>&1 || { cat target/plan.log; exit 1; }
 	./target/bin/bench <crates/bench/stdin
 
+# The engine and the sheets, proved side by side.
+halves:
+	tests/halves.sh
+
 # The proved programs.
-programs:
+programs: halves
 	rt check bench shelf
 
-# The library for C; after the programs, as two runs of rt do not share a folder.
-library: programs
-	rt staticlib desk
+# The library for C, built beside the programs.
+library: halves
+	cd target/side && rt staticlib desk
+	mkdir -p target/staticlib
+	cp target/side/target/staticlib/libdesk.a $(LIBRARY)
 
-tools: library
+tools: library programs
 	$(MAKE) -C hosts LIB=$(LIBRARY)
 
 hire: tools
@@ -51,7 +57,7 @@ compared: programs second
 	$(SECOND) compare bench 4000 1 ./target/bin/bench
 	$(SECOND) compare shelf 20000 1 ./target/bin/shelf
 
-host-tests: second-tests stored-runs compared library
+host-tests: compared library second-tests stored-runs
 	LIB=$(LIBRARY) SECOND=$(SECOND) sh tests/hosts/run.sh
 
 compare: programs second
