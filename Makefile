@@ -12,7 +12,7 @@ LIBRARY := $(CURDIR)/target/staticlib/libdesk.a
 COUNT ?= 20000
 
 # Crates and edits that rt tries at a time: more than two processors, as a level or a batch waits for its slowest.
-export RT_JOBS ?= 4
+export RT_JOBS ?= 5
 
 plan:
 	@mkdir -p target

@@ -6,12 +6,10 @@ use Prim.Native.Nat.{ℕ, _-_, _^_, _≤_, _<_}
 use native.Mathlib.Omega.{arith}
 use borrow.Author.Tests.{le-leb, ltb-true}
 use lib.Dec.{ltb}
-use lib.ListN.{length, take, drop, length-append}
-use lib.Seq.{take-at}
+use lib.ListN.{length, take, drop}
 use Rattle.number.specs.Choice.{pick}
-use Rattle.number.proofs.Choice.{pick-true, pick-elim}
+use Rattle.number.proofs.Choice.{pick-true, pick-elim, paired}
 use Rattle.field.specs.declared.Refusal.{Refusal}
-use Rattle.field.specs.declared.Written.{Written}
 use Rattle.field.specs.declared.Written.the-variants.{Length}
 use Rattle.field.specs.declared.Written.the-variants.{Refused as NotWritten}
 use Rattle.field.specs.Field.{number, end}
@@ -29,12 +27,13 @@ use Rattle.plan.specs.declared.Answer.the-variants.{Refused as NoPlan}
 use Rattle.plan.specs.Draft.{planBytes}
 use Rattle.plan.specs.Plan.{Plan, planSheet}
 use Rattle.plan.specs.Range.{InRange}
-use Rattle.plan.specs.Receive.{roomFor, settle as settledOf, heads, over, Received}
+use Rattle.plan.specs.Receive.{roomFor, settle as settledOf, heads, Received}
 use Rattle.plan.specs.Told.{toldPlan}
 use Rattle.plan.proofs.Longest.{longest-fits}
-use Rattle.plan.proofs.Receiving.{both, Took, took}
-use Rattle.plan.proofs.RoundTrip.{sheet-read}
-use Rattle.request.specs.Request.{requestSheet}
+use Rattle.plan.proofs.Over.{over-within, over-front}
+use Rattle.plan.proofs.Receiving.{Took, took}
+use Rattle.plan.proofs.RoundTrip.{sheet-read, same-plan}
+use Rattle.plan.proofs.Sending.{sent-all}
 use Rattle.unit.specs.declared.Answer.{Answer as Verdicts}
 use Rattle.unit.specs.declared.Answer.the-variants.{Accepted as Taken}
 use Rattle.unit.specs.declared.Answer.the-variants.{Refused as Denied}
@@ -48,13 +47,13 @@ use Rattle.unit.specs.Told.{told, toldAnswer}
 use Rattle.unit.specs.Unit.{newUnit, tenancyOf, tenanted, withTable}
 use Rattle.unit.proofs.Plans.{plan-for-unique}
 use Rattle.unit.proofs.Sound.{sound-new, sound-rent, sound-set}
+use Rattle.unit.proofs.Within.{answered-as}
 use Rattle.line.specs.declared.Word.the-variants.{Refused}
 use Rattle.console.specs.Bench.{Ready, judge, accept, close, settle, hire, benchInput, Replies, Asks, Line, Tells, Let}
 use Rattle.stream.specs.Frame.{sheet, part}
 use Rattle.line.specs.Line.{spoken, planLine}
 use Rattle.line.specs.Printed.{Printed}
 use Rattle.line.proofs.Adding.{printed-unique}
-use Rattle.line.proofs.Sending.{sent-all}
 
 -- ---- a call's outcome
 
@@ -186,17 +185,6 @@ input-no-unit s m h = stops number _ s 0 h
 
 -- ---- the plan sheet, read back
 
-few-disks : (xs list : List ℕ) → length xs ≤ length (over xs list)
-unfolding over
-few-disks xs list = omega (arith, length-append xs (drop (length xs) list))
-
-over-first : (xs list : List ℕ) (n : ℕ) → n ≡ length xs → take n (over xs list) ≡ xs
-unfolding over
-over-first xs list n h = take-at xs (drop (length xs) list) n (sym h)
-
-same-plan : (r r′ : ℕ) (ds ds′ bs bs′ : List ℕ) → r ≡ r′ → ds ≡ ds′ → bs ≡ bs′ → _≡_ {A = Plan} (record { time = r; disks = ds; short = bs }) (record { time = r′; disks = ds′; short = bs′ })
-same-plan r r′ ds ds′ bs bs′ x y z = cc
-
 -- what is known of an answer, where the answer is known
 pub received-as : {o : Out Plan} {n : ℕ} {disks short disks′ short′ : List ℕ} {a b : Answer} → Received o n disks short a disks′ short′ → a ≡ b → Received o n disks short b disks′ short′
 received-as {o} {n} {disks} {short} {disks′} {short′} w q = subst (λ (x : Answer). Received o n disks short x disks′ short′) q w
@@ -208,10 +196,10 @@ module _ (unit t : ℕ) (s disks short : List ℕ) where
 
     -- both lists have so many entries
     pub back-disks : h .blocks ≤ length disks′
-    back-disks = omega (arith, back .blocks, ap length (back .disks-left), few-disks (back .plan .disks) disks)
+    back-disks = omega (arith, back .blocks, ap length (back .disks-left), over-within (back .plan .disks) disks)
 
     pub back-short : h .size ≤ length short′
-    back-short = omega (arith, back .size, ap length (back .short-left), few-disks (back .plan .short) short)
+    back-short = omega (arith, back .size, ap length (back .short-left), over-within (back .plan .short) short)
 
     -- what was read is the plan
     pub back-plan : unit < 2 ^ 32 → t < 2 ^ 32 → (p : Plan) → InRange p → 0 < t → s ≡ planBytes unit t p → record { time = h .time; disks = take (h .blocks) disks′; short = take (h .size) short′ } ≡ p
@@ -220,8 +208,8 @@ module _ (unit t : ℕ) (s disks short : List ℕ) where
         let y : got (back .plan) (length s) ≡ got p (length (planBytes unit t p)) = sym (back .says) ∙ x in
         let e : back .plan ≡ p = cc in
         same-plan (h .time) (back .plan .time) (take (h .blocks) disks′) (back .plan .disks) (take (h .size) short′) (back .plan .short) (back .time)
-        (ap (take (h .blocks)) (back .disks-left) ∙ over-first (back .plan .disks) disks (h .blocks) (back .blocks))
-        (ap (take (h .size)) (back .short-left) ∙ over-first (back .plan .short) short (h .size) (back .size))
+        (ap (take (h .blocks)) (back .disks-left) ∙ over-front (back .plan .disks) disks (h .blocks) (sym (back .blocks)))
+        (ap (take (h .size)) (back .short-left) ∙ over-front (back .plan .short) short (h .size) (sym (back .size)))
         ∙ e
 
   -- a plan sheet is never refused
@@ -229,7 +217,7 @@ module _ (unit t : ℕ) (s disks short : List ℕ) where
   unfolding toldPlan settledOf heads roomFor
   back-never e disks′ short′ w a b m n p r l q =
       let x : planSheet unit t s 0 ≡ got p (length (planBytes unit t p)) = ap (λ (z : List ℕ). planSheet unit t z 0) q ∙ sheet-read unit t p a l b r in
-      let room : roomFor p disks short ≡ true = both (le-leb (length (p .disks)) (length disks) (omega (arith, r .few))) (le-leb (length (p .short)) (length short) (omega (arith, r .few, r .size-to))) in
+      let room : roomFor p disks short ≡ true = paired (le-leb (length (p .disks)) (length disks) (omega (arith, r .few))) (le-leb (length (p .short)) (length short) (omega (arith, r .few, r .size-to))) in
       let y : refused (numberOf e) ≡ heads (got p (length (planBytes unit t p))) = w .answer ∙ ap (λ (o : Out Plan). heads (settledOf o disks short)) x ∙ ap heads (pick-true _ _ room) in
       let z : _≡_ {A = ℕ} 0 1 = cc in
       omega arith
@@ -237,18 +225,12 @@ module _ (unit t : ℕ) (s disks short : List ℕ) where
 -- ---- the request's answer
 
 module _ (u : Unit) (out : List ℕ) where
-  -- an accepted request's sheet lies within the buffer
-  reply-within : (o : Out (List ℕ)) (n : ℕ) (after : List ℕ) → Replied u o out (Length n) after → n ≤ length out
-  unfolding Replied Sheeted toldWritten
-  reply-within (refused m) n after w = absurd (let a : got tt n ≡ refused m = w .0 in let z : _≡_ {A = ℕ} 0 1 = cc in omega arith)
-  reply-within (got copies e) n after w = sent-all (u .number) (tenancyOf u) (w .0) (w .1 .range) out n after (w .2) .0
-
   module _ {buf buf′ : List ℕ} {m : ℕ} where
     reply-shown : (o : Out (List ℕ)) (n : ℕ) (after : List ℕ) → Replied u o out (Length n) after → ((p : Plan) → InRange p → take n after ≡ planBytes (u .number) (tenancyOf u) p → Printed (planLine (u .number) (tenancyOf u) p) buf m buf′) → (text : List ℕ) × Replies u o text × Printed text buf m buf′
     unfolding Replied Sheeted Replies toldWritten
     reply-shown (refused k) n after w f = absurd (let a : got tt n ≡ refused k = w .0 in let z : _≡_ {A = ℕ} 0 1 = cc in omega arith)
     reply-shown (got copies e) n after w f =
-        let x : (n ≤ length out) × (take n after ≡ planBytes (u .number) (tenancyOf u) (w .0)) × (n ≡ length (planBytes (u .number) (tenancyOf u) (w .0))) = sent-all (u .number) (tenancyOf u) (w .0) (w .1 .range) out n after (w .2) in
+        let x : (n ≡ length (planBytes (u .number) (tenancyOf u) (w .0))) × (take n after ≡ planBytes (u .number) (tenancyOf u) (w .0)) × (n ≤ length out) = sent-all (u .number) (tenancyOf u) (w .0) (w .1 .range) out n after (w .2) in
         (planLine (u .number) (tenancyOf u) (w .0), (w .0, w .1, refl), f (w .0) (w .1 .range) (x .1))
 
     reply-refused : (o : Out (List ℕ)) (e : Refusal) (after : List ℕ) → 2964 ≤ length out → Replied u o out (NotWritten e) after → Printed (spoken (Refused (numberOf e))) buf m buf′ → (text : List ℕ) × Replies u o text × Printed text buf m buf′
@@ -262,19 +244,16 @@ module _ (u : Unit) (out : List ℕ) where
         absurd (let z : _≡_ {A = ℕ} 0 1 = cc in omega arith)
 
   module _ (s : List ℕ) (r : Planned) (after : List ℕ) (a : Answered u s out r after) where
-    pub answered-within : (n : ℕ) → r .answer ≡ Length n → n ≤ length out
-    answered-within n q = reply-within _ n after (subst (λ (x : Written). Replied u (requestSheet (u .number) (tenancyOf u) (u .table .disks) s 0) out x after) q (a .reply))
-
     module _ {buf buf′ : List ℕ} {m : ℕ} where
       pub asks-shown : (n t : ℕ) → r .answer ≡ Length n → 0 < tenancyOf u → t ≡ tenancyOf u → ((p : Plan) → InRange p → 0 < t → take n after ≡ planBytes (u .number) t p → Printed (planLine (u .number) t p) buf m buf′) → (text : List ℕ) × Asks u s text × Printed text buf m buf′
       unfolding Asks
       asks-shown n t q l e f =
           let g : (p : Plan) → InRange p → 0 < tenancyOf u → take n after ≡ planBytes (u .number) (tenancyOf u) p → Printed (planLine (u .number) (tenancyOf u) p) buf m buf′ = subst (λ (k : ℕ). (p : Plan) → InRange p → 0 < k → take n after ≡ planBytes (u .number) k p → Printed (planLine (u .number) k p) buf m buf′) e f in
-          reply-shown _ n after (subst (λ (x : Written). Replied u (requestSheet (u .number) (tenancyOf u) (u .table .disks) s 0) out x after) q (a .reply)) (λ p i j. g p i l j)
+          reply-shown _ n after (answered-as u out s r after a (Length n) q) (λ p i j. g p i l j)
 
       pub asks-refused : (e : Refusal) → r .answer ≡ NotWritten e → 2964 ≤ length out → Printed (spoken (Refused (numberOf e))) buf m buf′ → (text : List ℕ) × Asks u s text × Printed text buf m buf′
       unfolding Asks
-      asks-refused e q room p = reply-refused _ e after room (subst (λ (x : Written). Replied u (requestSheet (u .number) (tenancyOf u) (u .table .disks) s 0) out x after) q (a .reply)) p
+      asks-refused e q room p = reply-refused _ e after room (answered-as u out s r after a (NotWritten e) q) p
 
 -- ---- there is no second answer
 

@@ -23,11 +23,11 @@ use Rattle.settings.proofs.Writing.{draft-either}
 use Rattle.request.specs.Draft.{checked, requestDraft}
 use Rattle.plan.specs.Plan.{Plan}
 use Rattle.plan.specs.Receive.{heads, over}
+use Rattle.plan.proofs.Over.{over-front}
 use Rattle.desk.specs.Numbers.{bytesOf, numbers, broken}
 use Rattle.desk.specs.Packed.{writerAnswer, readerAnswer, refusalIn, lengthIn}
 use Rattle.desk.specs.Desk.{settingsDraftOfBytes, requestDraftOfBytes, Wrote, planOf, setLeft, PlanRead}
 use Rattle.desk.proofs.Numbers.{spell-length, numbers-spell}
-use Rattle.desk.proofs.Over.{over-front}
 use Rattle.desk.proofs.Packed.{Unpacked, written-unpacks, plan-unpacks, refusal-unpacks}
 use Rattle.desk.proofs.Reading.{Packable, plan-of-packable}
 use Rattle.desk.proofs.Writing.{settings-short, request-short}

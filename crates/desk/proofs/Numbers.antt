@@ -11,8 +11,9 @@ use native.Mathlib.Nat.{pow-suc, mul-zero, mul-suc, mul-assoc, mul-comm, mul-div
 use borrow.Author.Tests.{ltb-false}
 use mathlib.Core.Bool.{false}
 use lib.ListN.{length, take, drop, getD, length-append, length-drop, take-append-drop}
-use lib.Seq.{drop-cons, drop-drop, take-add, length-take-le, take-at, drop-at, getD-drop}
+use lib.Seq.{drop-cons, drop-drop, take-add, length-take-le, take-at, drop-at}
 use Rattle.number.specs.Bytes.{Bytes}
+use Rattle.number.proofs.Part.{drop-bytes}
 use Rattle.field.specs.Put.{spellAll}
 use Rattle.field.specs.Lists.{All}
 use Rattle.desk.specs.Numbers.{valueOf, bytesOf, numberAt, firstNumbers, numbers, broken}
@@ -139,10 +140,6 @@ bytes-take (suc w) [] b i = omega arith
 bytes-take (suc w) (x ∷ s) b zero = b 0
 bytes-take (suc w) (x ∷ s) b (suc i) = bytes-take w s (λ j. b (suc j)) i
 
-bytes-drop : (w : ℕ) (s : List ℕ) → Bytes s → Bytes (drop w s)
-unfolding Bytes
-bytes-drop w s b i = rw (getD-drop w s i 0) (b (w + i))
-
 spell-first : (w n : ℕ) (s : List ℕ) → Bytes s → length s ≡ w * n → spellAll (bytesOf w) (firstNumbers w n s) ≡ s
 unfolding firstNumbers spellAll
 spell-first w zero [] b h = refl
@@ -150,7 +147,7 @@ spell-first w zero (x ∷ s) b h = absurd (omega (arith, mul-zero w))
 spell-first w (suc n) s b h =
     let l : length (take w s) ≡ w = length-take-le w s (omega (arith, mul-suc w n)) in
     let front : bytesOf w (valueOf (take w s)) ≡ take w s = ap (λ (k : ℕ). bytesOf k (valueOf (take w s))) (sym l) ∙ bytes-value (take w s) (bytes-take w s b) in
-    let rest : spellAll (bytesOf w) (firstNumbers w n (drop w s)) ≡ drop w s = spell-first w n (drop w s) (bytes-drop w s b) (omega (arith, length-drop w s, mul-suc w n)) in
+    let rest : spellAll (bytesOf w) (firstNumbers w n (drop w s)) ≡ drop w s = spell-first w n (drop w s) (drop-bytes s w b) (omega (arith, length-drop w s, mul-suc w n)) in
     ap (λ (x : List ℕ). x ++ spellAll (bytesOf w) (firstNumbers w n (drop w s))) front
     ∙ ap (λ (x : List ℕ). take w s ++ x) rest
     ∙ take-append-drop w s

@@ -1,37 +1,13 @@
--- Laws of entries put over the start of a list.
-use mathlib.Core.Path.{_≡_, refl, sym, ap, _∙_}
-use mathlib.Core.List.{List, [], _∷_, _++_, append-assoc}
-use Prim.Native.Nat.{ℕ, suc, _/_, _≤_, _<_}
+-- Laws of the numbers of a list of bytes, put over the start of a list that is lent as a part.
+use mathlib.Core.Path.{_≡_, sym, ap, _∙_}
+use mathlib.Core.List.{List}
+use Prim.Native.Nat.{ℕ, _/_, _≤_}
 use native.Mathlib.Omega.{arith}
-use lib.ListN.{length, take, drop, set, getD, length-append, length-drop}
-use lib.Seq.{drop-cons, set-at, take-at}
+use lib.ListN.{length, take}
 use Rattle.plan.specs.Receive.{over}
+use Rattle.plan.proofs.Over.{over-within, over-front}
 use Rattle.desk.specs.Numbers.{numbers}
 use Rattle.desk.proofs.Numbers.{numbers-length}
-
-pub over-none : (out : List ℕ) → out ≡ over [] out
-unfolding over
-over-none out = refl
-
-pub over-length : (bs out : List ℕ) → length bs ≤ length out → length (over bs out) ≡ length out
-unfolding over
-over-length bs out h = omega (arith, length-append bs (drop (length bs) out), length-drop (length bs) out)
-
-pub over-front : (bs out : List ℕ) (n : ℕ) → length bs ≡ n → take n (over bs out) ≡ bs
-unfolding over
-over-front bs out n h = take-at bs (drop (length bs) out) n h
-
--- one entry more
-pub over-more : (bs out : List ℕ) (i v : ℕ) → length bs ≡ i → i < length out → set (over bs out) i v ≡ over (bs ++ (v ∷ [])) out
-unfolding over
-over-more bs out i v e h =
-    let n : suc (length bs) ≡ length (bs ++ (v ∷ [])) = omega (arith, length-append bs (v ∷ [])) in
-    ap (λ (x : List ℕ). set (bs ++ x) i v) (drop-cons out (length bs) 0 (omega arith))
-    ∙ set-at bs (getD out (length bs) 0) (drop (suc (length bs)) out) v i e
-    ∙ sym (append-assoc bs (v ∷ []) (drop (suc (length bs)) out))
-    ∙ ap (λ (k : ℕ). (bs ++ (v ∷ [])) ++ drop k out) n
-
--- ---- numbers over the start of a list, lent as a part
 
 module _ (w : ℕ) (bytes out after : List ℕ) (h : after ≡ over (numbers w bytes) out) where
   pub part-numbers : take (length bytes / w) after ≡ numbers w bytes
@@ -41,5 +17,4 @@ module _ (w : ℕ) (bytes out after : List ℕ) (h : after ≡ over (numbers w b
   part-count = sym (ap length part-numbers ∙ numbers-length w bytes)
 
   pub part-within : length bytes / w ≤ length after
-  unfolding over
-  part-within = omega (arith, ap length h, length-append (numbers w bytes) (drop (length (numbers w bytes)) out), numbers-length w bytes)
+  part-within = omega (arith, ap length h, over-within (numbers w bytes) out, numbers-length w bytes)

@@ -2,9 +2,9 @@
 --     plan-packable     Q, R and m of an accepted sheet, and its short set
 --     read-accepted, read-refused     the two ways in which it ends
 use mathlib.Core.Path.{_≡_, refl, sym, ap, _∙_, subst}
-use mathlib.Core.Bool.{Bool, true, false, _&&_}
+use mathlib.Core.Bool.{Bool, _&&_}
 use mathlib.Core.List.{List, [], _∷_, _++_}
-use Prim.Native.Nat.{ℕ, zero, suc, _+_, _*_, _-_, _/_, _^_, _≤_, _<_}
+use Prim.Native.Nat.{ℕ, _+_, _*_, _-_, _/_, _^_, _≤_, _<_}
 use native.Mathlib.Omega.{arith}
 use borrow.Author.Tests.{le-leb, leb-true}
 use lib.ListN.{length, take, drop, length-append}
@@ -12,7 +12,7 @@ use lib.Dec.{leb}
 use lib.Seq.{take-take, length-take-le}
 use Rattle.number.specs.Bytes.{Bytes}
 use Rattle.number.specs.Choice.{pick}
-use Rattle.number.proofs.Choice.{pick-true, pick-false, either}
+use Rattle.number.proofs.Choice.{pick-true, pick-false, either, both}
 use Rattle.field.specs.declared.Refusal.{Refusal}
 use Rattle.field.specs.Refusal.{numberOf}
 use Rattle.field.specs.Put.{spellAll}
@@ -21,23 +21,19 @@ use Rattle.field.specs.Lists.{All, Rises}
 use Rattle.plan.specs.declared.Head.{Head}
 use Rattle.plan.specs.declared.Answer.{Answer}
 use Rattle.plan.specs.declared.Answer.the-variants.{Accepted, Refused}
-use Rattle.plan.specs.Plan.{Plan, ifAny, planSheet}
+use Rattle.plan.specs.Plan.{Plan, planSheet}
 use Rattle.plan.specs.Range.{InRange}
 use Rattle.plan.specs.Receive.{roomFor, settle, heads, over, disksLeft, shortLeft, Received}
 use Rattle.plan.specs.Told.{toldPlan}
+use Rattle.plan.proofs.Bounds.{any-most}
+use Rattle.plan.proofs.Over.{over-front}
 use Rattle.plan.proofs.RoundTrip.{sheet-exact}
 use Rattle.desk.specs.Numbers.{bytesOf, numbers, Room}
 use Rattle.desk.specs.Packed.{readerAnswer, Small}
 use Rattle.desk.specs.Desk.{planOf, setLeft, PlanRead}
 use Rattle.desk.proofs.Numbers.{numbers-length}
-use Rattle.desk.proofs.Over.{over-front}
 
 -- ---- how large the values of an accepted sheet are
-
-any-most : (q n : ℕ) → ifAny q n ≤ n
-unfolding ifAny
-any-most zero n = omega arith
-any-most (suc q) n = omega arith
 
 -- a plan whose values have room in their bits
 pub record Packable (p : Plan) : Type 0 where
@@ -109,10 +105,6 @@ pub record Plans (unit t : ℕ) (s disks short : List ℕ) (h : Head) : Type 0 w
   pub time : h .time ≡ plan .time
   pub size : h .size ≡ length (plan .short)
 
-and-right : (a b : Bool) → (a && b) ≡ true → b ≡ true
-and-right true b h = h
-and-right false b h = absurd (let o : _≡_ {A = ℕ} 0 1 = cc in omega arith)
-
 settled : (unit t : ℕ) (s disks short : List ℕ) (h : Head) (n : ℕ) (o : Out Plan) → Bytes s → planSheet unit t s 0 ≡ o → got h n ≡ heads (settle o disks short) → Plans unit t s disks short h
 unfolding settle roomFor heads
 settled unit t s disks short h n (refused m) b q w = absurd (let o : _≡_ {A = ℕ} 0 1 = cc in omega arith)
@@ -127,7 +119,7 @@ settled unit t s disks short h n (got p e) b q w =
       end = e;
       is = ap (λ (z : Out Plan). settle z disks short) q ∙ x;
       range = plan-packable unit t s p e b q;
-      room = leb-true _ _ (and-right (leb (length (p .disks)) (length disks)) _ y);
+      room = leb-true _ _ (both (leb (length (p .disks)) (length disks)) _ y .1);
       blocks = ap (λ (z : Head). z .blocks) i;
       time = ap (λ (z : Head). z .time) i;
       size = ap (λ (z : Head). z .size) i;

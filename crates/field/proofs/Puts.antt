@@ -3,21 +3,22 @@
 --     written-none, written-more     these bytes from here on, all else as it was: no field yet, and one more
 --     written-length, written-join, written-as     the buffer's length; bytes behind bytes; other names
 --     put-one, put-then, put-three, put-behind     one field; one before what follows it; three; one behind what was written
---     front-room            where two parts have room, the first has
+--     front-room, spell-room     where two parts have room, the first has; where a list has, its next value has
 use mathlib.Core.Path.{_≡_, sym, ap, _∙_}
-use mathlib.Core.List.{List, [], _++_, append-assoc}
-use Prim.Native.Nat.{ℕ, _+_, _-_, _≤_, _<_}
+use mathlib.Core.List.{List, [], _∷_, _++_, append-assoc}
+use Prim.Native.Nat.{ℕ, suc, _+_, _-_, _≤_, _<_}
 use native.Mathlib.Omega.{arith}
 use borrow.Author.Tests.{le-leb, lt-leb, leb-true, leb-false}
 use borrow.Rule.Slice.PartMut.{putMid}
 use lib.Dec.{leb}
-use lib.ListN.{length, take, drop, length-append, length-drop, take-append-drop}
-use lib.Seq.{length-take-le, drop-drop, take-at, drop-append-add}
+use lib.ListN.{length, take, drop, getD, length-append, length-drop, take-append-drop}
+use lib.Seq.{length-take-le, drop-drop, take-at, drop-append-add, split-at}
 use Rattle.number.specs.Encode.{encode, widthOf, Wrote, written, fits}
 use Rattle.number.proofs.Choice.{pick-true, pick-false, pick-elim, either}
 use Rattle.number.proofs.Encode.{wrote-room, wrote-none}
 use Rattle.number.proofs.Part.{rest, put-rest}
-use Rattle.field.specs.Put.{paste, hasRoom, Put, Written}
+use Rattle.field.specs.Put.{paste, spellAll, hasRoom, Put, Written}
+use Rattle.field.proofs.Spell.{spell-append}
 
 -- ---- one field
 
@@ -160,3 +161,20 @@ written-as e q w = record { fit = w .fit; held = e ∙ w .held; place = q ∙ w 
 pub wrote-fits : (v : ℕ) (out : List ℕ) (n : ℕ) (ys : List ℕ) → Wrote v out n ys → n ≤ length out
 unfolding written fits
 wrote-fits v out n ys w = rw (w .count) (pick-elim (λ (k : ℕ). k ≤ length out) _ _ _ (λ t. leb-true _ _ t) (λ _. omega arith))
+
+-- one value more of a list has room where the whole list has
+module _ {A : Type 0} (spell : A → List ℕ) (ms : List A) (i : ℕ) (z : A) (l : i < length ms) where
+  spell-split : spellAll spell ms ≡ spellAll spell (take i ms) ++ (spell (getD ms i z) ++ spellAll spell (drop (suc i) ms))
+  unfolding spellAll
+  spell-split = ap (spellAll spell) (split-at ms i z l) ∙ spell-append spell (take i ms) (getD ms i z ∷ drop (suc i) ms)
+
+  pub spell-room : {out : List ℕ} {at p : ℕ} {mid : List ℕ} → Written out at (spellAll spell (take i ms)) mid p → at + length (spellAll spell ms) ≤ length out → p + length (spell (getD ms i z)) ≤ length mid
+  spell-room {out} {at} {p} {mid} w h =
+      omega (
+        arith,
+        w .place,
+        written-length w,
+        ap length spell-split,
+        length-append (spellAll spell (take i ms)) (spell (getD ms i z) ++ spellAll spell (drop (suc i) ms)),
+        length-append (spell (getD ms i z)) (spellAll spell (drop (suc i) ms)),
+      )

@@ -3,7 +3,7 @@ use mathlib.Core.Path.{_≡_, refl, sym, ap, _∙_}
 use mathlib.Core.List.{List}
 use Prim.Native.Nat.{ℕ, _+_, _≤_, _<_}
 use native.Mathlib.Omega.{arith}
-use borrow.Author.Tests.{le-leb, lt-leb}
+use borrow.Author.Tests.{le-leb, lt-leb, leb-true, leb-false}
 use lib.Dec.{leb}
 use lib.ListN.{length, take, drop}
 use lib.Seq.{take-at}
@@ -37,15 +37,23 @@ sent-fits {bs} {out} {n} {after} w =
     record { answer = ap (got tt) e ∙ sym (pick-true _ _ (le-leb _ _ l)); held = w .held ∙ sym (pick-true _ _ (le-leb _ _ l)) }
 
 -- the buffer then begins with the sheet
-pub sent-bytes : (bs out : List ℕ) (n : ℕ) (after : List ℕ) → Sent (sheet bs) out (Length n) after → (n ≡ length bs) × (take n after ≡ bs)
+pub sent-bytes : (bs out : List ℕ) (n : ℕ) (after : List ℕ) → Sent (sheet bs) out (Length n) after → (n ≡ length bs) × (take n after ≡ bs) × (n ≤ length out)
 unfolding toldWritten answerTo leftBy paste
 sent-bytes bs out n after w =
     either (leb (length bs) (length out))
     (λ t.
     let a : got tt n ≡ got tt (length bs) = w .answer ∙ pick-true _ _ t in
     let k : n ≡ length bs = cc in
-    (k, ap (take n) (w .held ∙ pick-true _ _ t) ∙ take-at bs (drop (0 + length bs) out) n (sym k)))
+    (k, ap (take n) (w .held ∙ pick-true _ _ t) ∙ take-at bs (drop (0 + length bs) out) n (sym k), omega (arith, leb-true (length bs) (length out) t)))
     (λ f. let a : got tt n ≡ refused 11 = w .answer ∙ pick-false _ _ f in absurd (let z : _≡_ {A = ℕ} 0 1 = cc in omega arith))
+
+-- why a sheet is not sent: it is longer than the buffer
+pub sent-not : (bs out : List ℕ) (e : Refusal) (after : List ℕ) → Sent (sheet bs) out (Refused e) after → (length out < length bs) × (numberOf e ≡ 11)
+unfolding toldWritten answerTo
+sent-not bs out e after w =
+    either (leb (length bs) (length out))
+    (λ t. absurd (let a : refused (numberOf e) ≡ got tt (length bs) = w .answer ∙ pick-true _ _ t in let z : _≡_ {A = ℕ} 0 1 = cc in omega arith))
+    (λ f. let a : refused (numberOf e) ≡ refused 11 = w .answer ∙ pick-false _ _ f in (leb-false (length bs) (length out) f, cc))
 
 -- two answers that say the same are the same
 pub written-injective : (a b : Written) → toldWritten a ≡ toldWritten b → a ≡ b

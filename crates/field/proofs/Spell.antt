@@ -1,15 +1,10 @@
--- Laws of the bytes of a list, value by value, and of a number of two bytes.
+-- Laws of the bytes of a list, value by value.
 use mathlib.Core.Path.{_≡_, refl, sym, ap, _∙_}
 use mathlib.Core.List.{List, [], _∷_, _++_, append-assoc, append-nil}
-use Prim.Native.Nat.{ℕ, suc, _+_, _/_, _≤_, _<_}
+use Prim.Native.Nat.{ℕ, suc, _+_, _*_, _≤_, _<_}
 use native.Mathlib.Omega.{arith}
-use borrow.Author.Tests.{ltb-true, ltb-false}
-use lib.Dec.{ltb}
-use lib.ListN.{length, take, getD}
+use lib.ListN.{length, take, getD, length-append}
 use lib.Seq.{take-suc}
-use Rattle.number.specs.Encode.{widthOf}
-use Rattle.number.proofs.Choice.{either}
-use Rattle.number.proofs.Encode.{width-one, width-more}
 use Rattle.field.specs.Put.{spellAll}
 
 -- the bytes of one list behind another
@@ -27,10 +22,8 @@ module _ {A : Type 0} (spell : A → List ℕ) (ms : List A) (i : ℕ) (z : A) (
       ∙ sym (spell-append spell (take i ms) (getD ms i z ∷ []))
       ∙ ap (spellAll spell) (sym (take-suc ms i z l) ∙ ap (λ (k : ℕ). take k ms) {x = suc i} {y = i + 1} (omega arith))
 
--- a number of two groups of seven bits has two bytes at the most
-pub width-two : (v : ℕ) → v < 16384 → widthOf v ≤ 2
-width-two v h =
-    either (ltb v 128) (λ t. omega (arith, width-one v (ltb-true v 128 t)))
-    (λ f.
-    let l : 128 ≤ v = ltb-false v 128 f in
-    omega (arith, width-more v l (omega arith), width-one (v / 128) (omega arith)))
+-- so many bytes at the most for each value
+pub spell-bound : {A : Type 0} (spell : A → List ℕ) (k : ℕ) → ((v : A) → length (spell v) ≤ k) → (xs : List A) → length (spellAll spell xs) ≤ k * length xs
+unfolding spellAll
+spell-bound spell k h [] = omega arith
+spell-bound spell k h (x ∷ xs) = omega (arith, length-append (spell x) (spellAll spell xs), h x, spell-bound spell k h xs)

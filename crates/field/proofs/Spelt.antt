@@ -10,12 +10,13 @@ use native.Mathlib.Omega.{arith}
 use borrow.Author.Tests.{eqb-true, leb-true, ltb-true}
 use lib.Dec.{eqb, leb, ltb}
 use lib.ListN.{length, drop, length-append, length-drop}
-use lib.Seq.{getD-drop, drop-drop, drop-length}
+use lib.Seq.{drop-drop, drop-length}
 use Rattle.number.specs.Bytes.{Bytes}
 use Rattle.number.specs.Decode.{Decoded, value, decode}
 use Rattle.number.specs.Decode.{refused as bad}
 use Rattle.number.specs.Encode.{encode, widthOf}
 use Rattle.number.proofs.Encode.{width-bounds}
+use Rattle.number.proofs.Part.{drop-bytes}
 use Rattle.number.proofs.RoundTrip.{Begins, decode-exact}
 use Rattle.field.specs.Sheet.{got}
 use Rattle.field.specs.Field.{taken, number, exactly, tenancy, inside, rising}
@@ -44,10 +45,6 @@ decoded : (s : List ℕ) (at v e : ℕ) (d : Decoded) → taken at d ≡ got v e
 unfolding taken
 decoded s at v e (value w n) h = (n, cc, cc)
 decoded s at v e (bad m) h = absurd (let z : _≡_ {A = ℕ} 0 1 = cc in omega arith)
-
-drop-bytes : (s : List ℕ) (at : ℕ) → Bytes s → Bytes (drop at s)
-unfolding Bytes
-drop-bytes s at h i = rw (getD-drop at s i 0) (h (at + i))
 
 pub number-spelt : (s : List ℕ) (at v e : ℕ) → Bytes s → number s at ≡ got v e → Spelt s at e (encode v) × (v < 2 ^ 32)
 unfolding number widthOf

@@ -1,12 +1,13 @@
 -- Laws of bytes behind bytes: none yet, one more, one text behind another, entry by entry, and a whole line.
 use mathlib.Core.Path.{_≡_, refl, sym, ap, _∙_, subst}
 use mathlib.Core.List.{List, [], _∷_, _++_, append-assoc, append-nil}
-use Prim.Native.Nat.{ℕ, suc, _+_, _*_, _≤_, _<_}
+use Prim.Native.Nat.{ℕ, suc, _+_, _≤_, _<_}
 use native.Mathlib.Omega.{arith}
 use native.Mathlib.Numerals.{add-one}
 use lib.ListN.{length, take, drop, getD, set, length-append, length-drop}
-use lib.Seq.{take-suc, take-length, drop-cons, set-at}
+use lib.Seq.{take-all, drop-cons, set-at}
 use Rattle.field.specs.Put.{spellAll}
+use Rattle.field.proofs.Spell.{spell-more}
 use Rattle.line.specs.Printed.{Printed, Adds}
 
 -- a buffer keeps its length
@@ -57,30 +58,16 @@ adds-same {xs} {ys} {mid} {after} {at} {next} e a = subst (λ (z : List ℕ). Ad
 -- ---- a list, entry by entry
 
 module _ (spell : ℕ → List ℕ) where
-  -- one entry behind the others
-  spell-next : (xs : List ℕ) (v : ℕ) → spellAll spell (xs ++ (v ∷ [])) ≡ spellAll spell xs ++ spell v
-  unfolding spellAll
-  spell-next [] v = append-nil (spell v)
-  spell-next (x ∷ xs) v = ap (λ (z : List ℕ). spell x ++ z) (spell-next xs v) ∙ sym (append-assoc (spell x) (spellAll spell xs) (spell v))
-
   pub adds-start : (mid : List ℕ) (at : ℕ) (xs : List ℕ) → Adds (spellAll spell (take 0 xs)) mid at mid at
   unfolding spellAll
   adds-start mid at xs = adds-none mid at
 
   module _ {first mid : List ℕ} {at p : ℕ} (xs : List ℕ) (i : ℕ) where
     pub adds-next : {after : List ℕ} {next : ℕ} → i < length xs → Adds (spellAll spell (take i xs)) first at mid p → Adds (spell (getD xs i 0)) mid p after next → Adds (spellAll spell (take (i + 1) xs)) first at after next
-    adds-next h a b =
-        let e : take (i + 1) xs ≡ take i xs ++ (getD xs i 0 ∷ []) = ap (λ (k : ℕ). take k xs) (add-one i) ∙ take-suc xs i 0 h in
-        adds-same (sym (ap (spellAll spell) e ∙ spell-next (take i xs) (getD xs i 0))) (adds-join a b)
+    adds-next h a b = adds-same (spell-more spell xs i 0 h) (adds-join a b)
 
     pub adds-whole : i ≡ length xs → Adds (spellAll spell (take i xs)) first at mid p → Adds (spellAll spell xs) first at mid p
-    adds-whole h a = adds-same (ap (spellAll spell) (ap (λ (k : ℕ). take k xs) h ∙ take-length xs)) a
-
-  -- so many bytes at the most for each entry
-  pub spell-bound : (k : ℕ) → ((v : ℕ) → length (spell v) ≤ k) → (xs : List ℕ) → length (spellAll spell xs) ≤ k * length xs
-  unfolding spellAll
-  spell-bound k h [] = omega arith
-  spell-bound k h (x ∷ xs) = omega (arith, length-append (spell x) (spellAll spell xs), h x, spell-bound k h xs)
+    adds-whole h a = adds-same (ap (spellAll spell) (take-all i xs (omega arith))) a
 
 -- a text is its own bytes, one by one
 pub spell-bytes : (xs : List ℕ) → spellAll (λ b. b ∷ []) xs ≡ xs

@@ -1,4 +1,3 @@
 pub mod Adding
 pub mod Digits
 pub mod Lines
-pub mod Sending

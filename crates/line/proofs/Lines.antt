@@ -2,19 +2,20 @@
 use mathlib.Core.Path.{_≡_, sym, _∙_, subst}
 use mathlib.Core.Bool.{false}
 use mathlib.Core.List.{List, [], _∷_, _++_, append-assoc}
-use Prim.Native.Nat.{ℕ, _+_, _≤_, _<_}
+use Prim.Native.Nat.{ℕ, _≤_, _<_}
 use native.Mathlib.Omega.{arith}
 use borrow.Author.Tests.{le-leb, lt-leb}
+use lib.Dec.{leb}
 use lib.ListN.{length, length-append}
-use Rattle.number.proofs.Choice.{pick-true, pick-false}
+use Rattle.number.proofs.Choice.{pick-true, pick-false, paired, first-false, second-false}
 use Rattle.field.specs.Put.{spellAll}
+use Rattle.field.proofs.Spell.{spell-bound}
 use Rattle.plan.specs.Plan.{Plan}
 use Rattle.plan.specs.Draft.{counted}
-use Rattle.plan.proofs.Receiving.{both, either-false, first-false}
 use Rattle.line.specs.Text.{spaced, pair, hex}
 use Rattle.line.specs.Line.{feed, word-plan, bar, planText, planLine, sheetLine}
 use Rattle.line.specs.Printed.{Printed, Adds}
-use Rattle.line.proofs.Adding.{adds-line, adds-join, no-line, spell-bound}
+use Rattle.line.proofs.Adding.{adds-line, adds-join, no-line}
 use Rattle.line.proofs.Digits.{spaced-bound}
 
 -- a line that is chosen
@@ -45,9 +46,9 @@ module _ (unit t : ℕ) (p : Plan) (out : List ℕ) where
   unfolding counted
   many-disks h = no-plan (first-false _ (lt-leb _ _ h))
 
-  pub many-blocks : length (p .disks) ≤ 1024 → 1024 < length (p .short) → Printed (planLine unit t p) out 0 out
+  pub many-blocks : 1024 < length (p .short) → Printed (planLine unit t p) out 0 out
   unfolding counted
-  many-blocks k h = no-plan (either-false (le-leb _ _ k) (lt-leb _ _ h))
+  many-blocks h = no-plan (second-false (leb (length (p .disks)) 1024) (lt-leb _ _ h))
 
   -- the fields, and then the lists
   head : List ℕ
@@ -74,7 +75,7 @@ module _ (unit t : ℕ) (p : Plan) (out : List ℕ) where
     unfolding planLine counted planText head lists
     chosen =
         append-assoc word-plan (spellAll spaced (unit ∷ t ∷ length (p .disks) ∷ p .time ∷ [])) (bar ++ (spellAll spaced (p .disks) ++ (bar ++ (spellAll spaced (p .short) ++ feed))))
-        ∙ sym (pick-true (planText unit t p) [] (both (le-leb _ _ k) (le-leb _ _ l)))
+        ∙ sym (pick-true (planText unit t p) [] (paired (le-leb _ _ k) (le-leb _ _ l)))
 
     pub plan-printed : {mid after : List ℕ} {at n : ℕ} → length out ≡ 24576
         → Adds (word-plan ++ spellAll spaced (unit ∷ t ∷ length (p .disks) ∷ p .time ∷ [])) out 0 mid at

@@ -1,6 +1,6 @@
--- Laws of a choice by a test.
-use mathlib.Core.Path.{_≡_, refl, ap}
-use mathlib.Core.Bool.{Bool, true, false}
+-- Laws of a choice by a test, and of two tests joined.
+use mathlib.Core.Path.{_≡_, refl}
+use mathlib.Core.Bool.{Bool, true, false, _&&_}
 use Rattle.number.specs.Choice.{pick}
 
 module _ {A : Type 0} where
@@ -24,3 +24,22 @@ module _ {A : Type 0} where
 pub either : {X : Type 0} (b : Bool) → (b ≡ true → X) → (b ≡ false → X) → X
 either true f g = f refl
 either false f g = g refl
+
+-- ---- two tests
+
+-- both hold
+pub both : (a b : Bool) → (a && b) ≡ true → (a ≡ true) × (b ≡ true)
+both true b h = (refl, h)
+both false b h = (h, cc)
+
+-- where each does, both do
+pub paired : {a b : Bool} → a ≡ true → b ≡ true → (a && b) ≡ true
+paired {a} {b} p q = rw (p, q)
+
+-- where one does not, not both do
+pub first-false : {a : Bool} (b : Bool) → a ≡ false → (a && b) ≡ false
+first-false b p = rw p
+
+pub second-false : (a : Bool) {b : Bool} → b ≡ false → (a && b) ≡ false
+second-false true p = p
+second-false false p = refl

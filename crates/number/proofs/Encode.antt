@@ -1,13 +1,12 @@
 -- Laws of `encode`: its groups one by one, its width, and what a write leaves in a buffer.
-use mathlib.Core.Path.{_≡_, refl, sym, ap, _∙_}
+use mathlib.Core.Path.{_≡_, sym, ap, _∙_}
 use mathlib.Core.List.{List, [], _∷_, _++_}
-use Prim.Native.Nat.{ℕ, zero, suc, _+_, _*_, _-_, _/_, _%_, _^_, _≤_, _<_}
+use Prim.Native.Nat.{ℕ, zero, suc, _+_, _-_, _/_, _%_, _^_, _≤_, _<_}
 use native.Mathlib.Omega.{arith}
 use native.Mathlib.Nat.{pow-suc}
-use borrow.Author.Tests.{lt-ltb, le-ltb, le-leb, lt-leb, leb-true, leb-false}
+use borrow.Author.Tests.{lt-ltb, le-ltb, ltb-true, ltb-false, le-leb, lt-leb, leb-true, leb-false}
 use lib.Dec.{ltb, leb}
-use lib.ListN.{length, take, drop, set, length-append, length-drop}
-use lib.Seq.{take-all}
+use lib.ListN.{length, take, drop, set}
 use Rattle.number.specs.Choice.{pick}
 use Rattle.number.specs.Encode.{encodeBy, encode, widthOf, fits, written, putFirst, Wrote}
 use borrow.Rule.Slice.PartMut.{putMid}
@@ -44,6 +43,14 @@ width-one v h = ap length (encode-one v h)
 pub width-more : (v : ℕ) → 128 ≤ v → v < 2 ^ 32 → widthOf v ≡ suc (widthOf (v / 128))
 unfolding widthOf
 width-more v h l = ap length (encode-more v h l)
+
+-- a number below a power of 128 has so many bytes at the most
+pub width-top : (k v : ℕ) → v < 2 ^ 32 → v < 128 ^ suc k → widthOf v ≤ suc k
+width-top zero v l h = omega (arith, width-one v h)
+width-top (suc k) v l h =
+    either (ltb v 128)
+    (λ t. omega (arith, width-one v (ltb-true v 128 t)))
+    (λ f. omega (arith, width-more v (ltb-false v 128 f) l, width-top k (v / 128) (omega arith) (omega (arith, pow-suc 128 (suc k)))))
 
 width-by : (k v : ℕ) → (1 ≤ length (encodeBy k v)) × (length (encodeBy k v) ≤ suc k)
 unfolding encodeBy

@@ -1,21 +1,20 @@
 -- Reading what was written gives the value, whatever follows; what was read, written, gives the same bytes.
 --     decode-encode     the first
 --     decode-exact      the second
-use mathlib.Core.Path.{_≡_, refl, sym, ap, _∙_, subst}
-use mathlib.Core.Bool.{Bool, true, false}
+use mathlib.Core.Path.{_≡_, refl, sym, ap, _∙_}
 use mathlib.Core.List.{List, [], _∷_, _++_}
-use Prim.Native.Nat.{ℕ, zero, suc, _+_, _*_, _-_, _/_, _%_, _^_, _≤_, _<_}
+use Prim.Native.Nat.{ℕ, zero, suc, _+_, _*_, _/_, _%_, _^_, _≤_, _<_}
 use native.Mathlib.Omega.{arith}
 use native.Mathlib.Nat.{pow-suc, one-le-pow}
 use native.Mathlib.Numerals.{add-one}
-use borrow.Author.Tests.{eq-eqb, ne-eqb, lt-ltb, le-ltb, ltb-true, ltb-false, eqb-false}
-use lib.ListN.{length, take, drop, getD}
-use lib.Dec.{ltb, eqb, lit<}
+use borrow.Author.Tests.{ne-eqb, lt-ltb, le-ltb, ltb-true, ltb-false, eqb-false}
+use lib.ListN.{length, drop}
+use lib.Dec.{ltb, lit<}
 use Rattle.number.specs.Bytes.{Bytes}
-use Rattle.number.specs.Choice.{pick}
 use Rattle.number.specs.Decode.{Decoded, value, refused, under, more, decode}
 use Rattle.number.specs.Encode.{encodeBy, encode, widthOf}
 use Rattle.number.proofs.Choice.{pick-true, pick-false, pick-elim, either}
+use Rattle.number.proofs.Part.{drop-bytes}
 
 -- ---- reading what was written
 
@@ -85,10 +84,6 @@ unfolding Exact under
 exact-under k b s (refused e) h l x = tt
 exact-under k b s (value v n) h l x = (exact-next k b v n s h l (x .1) (x .0), omega (arith, x .1), omega (arith, x .2, pow-suc 128 k))
 
-tail-bytes : (b : ℕ) (s : List ℕ) → Bytes (b ∷ s) → Bytes s
-unfolding Bytes
-tail-bytes b s h i = h (suc i)
-
 exact : (k : ℕ) (s : List ℕ) → Bytes s → Exact k s (more k s)
 unfolding Exact more encodeBy Bytes
 exact zero [] h = tt
@@ -105,7 +100,7 @@ exact (suc k) (b ∷ s) h =
       omega (arith, eqb-false b 0 z),
       omega (arith, ltb-true b 128 l, pow-suc 128 k, one-le-pow k 128 (lit< tt)),
     ))
-    (λ l. exact-under k b s (more k s) (ltb-false b 128 l) (h 0) (exact k s (tail-bytes b s h)))
+    (λ l. exact-under k b s (more k s) (ltb-false b 128 l) (h 0) (exact k s (drop-bytes (b ∷ s) 1 h)))
 
 Whole : List ℕ → Decoded → Type 0
 Whole s (value v n) = Begins s n (encode v) × (v < 2 ^ 32)
@@ -124,7 +119,7 @@ whole (b ∷ s) h =
     (λ l.
     let e : encodeBy 4 b ≡ b ∷ [] = pick-true _ _ l in
     (record { bytes = ap (λ (x : List ℕ). x ++ s) (sym e); count = ap length (sym e) }, omega (arith, ltb-true b 128 l)))
-    (λ l. whole-under b s (more 3 s) (ltb-false b 128 l) (h 0) (exact 3 s (tail-bytes b s h)))
+    (λ l. whole-under b s (more 3 s) (ltb-false b 128 l) (h 0) (exact 3 s (drop-bytes (b ∷ s) 1 h)))
 
 -- what was read, written, gives the same bytes
 pub decode-exact : (s : List ℕ) (v n : ℕ) → Bytes s → decode s ≡ value v n → Begins s n (encode v) × (v < 2 ^ 32)

@@ -4,12 +4,13 @@ use mathlib.Core.List.{List, [], _∷_, _++_, append-assoc, append-nil}
 use Prim.Native.Nat.{ℕ, _+_, _≤_, _<_}
 use native.Mathlib.Omega.{arith}
 use lib.ListN.{length, take, getD, length-append}
+use lib.Seq.{take-all}
 use Rattle.number.specs.Encode.{encode, widthOf}
 use Rattle.field.specs.Put.{spellAll, openingBytes, Put, Written}
 use Rattle.field.proofs.Puts.{written-none, written-more, written-join}
 use Rattle.plan.specs.Adds.{Adds}
 use Rattle.field.proofs.Spell.{spell-append}
-use Rattle.plan.proofs.Spell.{spell-put, take-next, take-whole}
+use Rattle.plan.proofs.Spell.{spell-put, take-next}
 
 pub adds-none : (mid : List ℕ) (at : ℕ) → Adds [] mid at mid at
 unfolding spellAll
@@ -51,7 +52,7 @@ module _ {first mid : List ℕ} {at p : ℕ} (xs : List ℕ) (i : ℕ) where
   adds-next {after} {next} h a f = subst (λ (z : List ℕ). Adds z first at after next) (sym (take-next xs i h)) (adds-put a f)
 
   pub adds-whole : i ≡ length xs → Adds (take i xs) first at mid p → Adds xs first at mid p
-  adds-whole h a = subst (λ (z : List ℕ). Adds z first at mid p) (take-whole xs i h) a
+  adds-whole h a = subst (λ (z : List ℕ). Adds z first at mid p) (take-all i xs (omega arith)) a
 
 -- all numbers of a sheet, from the first byte on
 pub adds-all : {xs out after : List ℕ} {next : ℕ} → Adds xs out 0 after next → length (spellAll encode xs) ≤ length out → Written out 0 (spellAll encode xs) after next

@@ -5,9 +5,10 @@ use mathlib.Core.List.{List, [], _∷_, _++_, append-assoc}
 use Prim.Native.Nat.{ℕ, _+_, _≤_, _<_}
 use native.Mathlib.Omega.{arith}
 use borrow.Author.Tests.{le-leb, lt-leb}
+use lib.Dec.{leb}
 use lib.ListN.{length, length-append}
 use Rattle.number.specs.Encode.{encode, widthOf}
-use Rattle.number.proofs.Choice.{pick-true, pick-false}
+use Rattle.number.proofs.Choice.{pick-true, pick-false, paired, first-false, second-false}
 use Rattle.field.specs.Put.{spellAll, openingBytes}
 use Rattle.field.specs.declared.Written.the-variants.{Length, Refused}
 use Rattle.field.specs.declared.Refusal.the-variants.{Range, NoRoom}
@@ -19,7 +20,6 @@ use Rattle.plan.specs.Plan.{Plan}
 use Rattle.plan.specs.Draft.{planNumbers, planBytes, counted, planDraft}
 use Rattle.plan.specs.Adds.{Adds}
 use Rattle.plan.proofs.Adding.{adds-all}
-use Rattle.plan.proofs.Receiving.{both, either-false, first-false}
 use Rattle.field.proofs.Spell.{spell-append}
 
 -- where these fields have room, the first three have
@@ -56,7 +56,7 @@ module _ (unit t : ℕ) (p : Plan) where
   -- the sheet is there
   pub draft : length (p .disks) ≤ 1024 → length (p .short) ≤ 1024 → planDraft unit t p ≡ sheet (planBytes unit t p)
   unfolding planDraft counted
-  draft k l = pick-true (sheet (planBytes unit t p)) (none 6) (both (le-leb _ _ k) (le-leb _ _ l))
+  draft k l = pick-true (sheet (planBytes unit t p)) (none 6) (paired (le-leb _ _ k) (le-leb _ _ l))
 
   module _ (out : List ℕ) where
     none-sent : counted p ≡ false → Sent (planDraft unit t p) out (Refused Range) out
@@ -68,9 +68,9 @@ module _ (unit t : ℕ) (p : Plan) where
     unfolding counted
     many-disks h = none-sent (first-false _ (lt-leb _ _ h))
 
-    pub many-members : length (p .disks) ≤ 1024 → 1024 < length (p .short) → Sent (planDraft unit t p) out (Refused Range) out
+    pub many-members : 1024 < length (p .short) → Sent (planDraft unit t p) out (Refused Range) out
     unfolding counted
-    many-members k h = none-sent (either-false (le-leb _ _ k) (lt-leb _ _ h))
+    many-members h = none-sent (second-false (leb (length (p .disks)) 1024) (lt-leb _ _ h))
 
     module _ (k : length (p .disks) ≤ 1024) (l : length (p .short) ≤ 1024) where
       pub long-sent : length out < length (planBytes unit t p) → Sent (planDraft unit t p) out (Refused NoRoom) out

@@ -2,9 +2,11 @@ pub mod Filling
 pub mod Spell
 pub mod Adding
 pub mod Bounds
+pub mod Over
 pub mod Checking
 pub mod Receiving
 pub mod Drafting
+pub mod Sending
 pub mod Longest
 pub mod RoundTrip
 pub mod Unique

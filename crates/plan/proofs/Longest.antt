@@ -8,8 +8,7 @@ use lib.Dec.{ltb}
 use lib.ListN.{length, length-append}
 use Rattle.number.specs.Encode.{encode, widthOf}
 use Rattle.number.proofs.Choice.{pick-true, either}
-use Rattle.number.proofs.Encode.{width-one, width-bounds}
-use Rattle.field.proofs.Spell.{width-two}
+use Rattle.number.proofs.Encode.{width-one, width-top, width-bounds}
 use Rattle.field.specs.Put.{spellAll}
 use Rattle.field.specs.Sheet.{got}
 use Rattle.field.specs.Send.{Draft, answerTo}
@@ -17,7 +16,8 @@ use Rattle.field.specs.Lists.{All, Rises}
 use Rattle.plan.specs.Plan.{Plan}
 use Rattle.plan.specs.Range.{InRange}
 use Rattle.plan.specs.Draft.{planBytes, planDraft}
-use Rattle.plan.proofs.Drafting.{bytes-length, draft}
+use Rattle.plan.proofs.Drafting.{bytes-length}
+use Rattle.plan.proofs.Sending.{plan-drafted}
 
 -- a disk number has one byte
 disks-width : (xs : List ℕ) → All (λ d. d ≤ 63) xs → length (spellAll encode xs) ≡ length xs
@@ -32,7 +32,7 @@ rising-width floor high [] l h = omega arith
 rising-width floor high (x ∷ xs) l h =
     let rest : length (spellAll encode xs) ≤ (128 - (x + 1)) + 2 * (896 - (x + 1 - 128)) = rising-width (x + 1) high xs l (h .2) in
     either (ltb x 128) (λ t. omega (arith, length-append (encode x) (spellAll encode xs), width-one x (ltb-true x 128 t), h .0, h .1))
-    (λ f. omega (arith, length-append (encode x) (spellAll encode xs), width-two x (omega (arith, h .1)), ltb-false x 128 f, h .0, h .1))
+    (λ f. omega (arith, length-append (encode x) (spellAll encode xs), width-top 1 x (omega (arith, h .1)) (omega (arith, h .1)), ltb-false x 128 f, h .0, h .1))
 
 -- whatever the unit and the tenancy: 1 + 5 + 5 + 2 + 5 + 1,024 + 2 + 1,920
 pub longest : (unit t : ℕ) (p : Plan) → InRange p → length (planBytes unit t p) ≤ 2964
@@ -43,10 +43,10 @@ longest unit t p r =
       width-one 3 (omega arith),
       width-bounds unit,
       width-bounds t,
-      width-two (length (p .disks)) (omega (arith, r .few)),
+      width-top 1 (length (p .disks)) (omega (arith, r .few)) (omega (arith, r .few)),
       width-bounds (p .time),
       disks-width (p .disks) (r .disks),
-      width-two (length (p .short)) (omega (arith, r .few, r .size-to)),
+      width-top 1 (length (p .short)) (omega (arith, r .few, r .size-to)) (omega (arith, r .few, r .size-to)),
       rising-width 0 (length (p .disks) - 1) (p .short) (omega (arith, r .few)) (r .blocks),
       r .few,
     )
@@ -55,5 +55,5 @@ longest unit t p r =
 pub longest-fits : (unit t : ℕ) (p : Plan) (out : List ℕ) → InRange p → 2964 ≤ length out → answerTo (planDraft unit t p) out ≡ got tt (length (planBytes unit t p))
 unfolding answerTo
 longest-fits unit t p out r h =
-    ap (λ (d : Draft). answerTo d out) (draft unit t p (r .few) (omega (arith, r .few, r .size-to)))
+    ap (λ (d : Draft). answerTo d out) (plan-drafted unit t p r)
     ∙ pick-true _ _ (le-leb (length (planBytes unit t p)) (length out) (omega (arith, longest unit t p r)))

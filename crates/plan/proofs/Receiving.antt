@@ -3,13 +3,14 @@
 --     found-few, found-refused, found-whole     what was found of the sheet, for the answer
 --     Took, took, refused-kept     what an answer says to a caller
 use mathlib.Core.Path.{_≡_, refl, sym, ap, _∙_, subst}
-use mathlib.Core.Bool.{Bool, true, false, _&&_}
+use mathlib.Core.Bool.{true, false}
 use mathlib.Core.List.{List}
 use Prim.Native.Nat.{ℕ, _-_, _≤_, _<_}
 use native.Mathlib.Omega.{arith}
 use borrow.Author.Tests.{le-leb, lt-leb}
+use lib.Dec.{leb}
 use lib.ListN.{length}
-use Rattle.number.proofs.Choice.{pick-true, pick-false, either}
+use Rattle.number.proofs.Choice.{pick-true, pick-false, either, paired, first-false, second-false}
 use Rattle.field.specs.Sheet.{Out, got, refused, times}
 use Rattle.field.specs.Field.{inside, climb}
 use Rattle.field.specs.declared.Refusal.{Refusal}
@@ -27,17 +28,6 @@ use Rattle.plan.specs.Plan.{Plan, planFields, planSheet}
 use Rattle.plan.specs.Told.{toldPlan}
 use Rattle.plan.specs.Receive.{roomFor, settle, heads, over, disksLeft, shortLeft, Received}
 use Rattle.plan.specs.Frame.{Holds, Framed, Checked}
-
--- ---- whether both lists have room
-
-pub both : {a b : Bool} → a ≡ true → b ≡ true → (a && b) ≡ true
-both {a} {b} p q = rw p q
-
-pub either-false : {a b : Bool} → a ≡ true → b ≡ false → (a && b) ≡ false
-either-false p q = rw p q
-
-pub first-false : {a : Bool} (b : Bool) → a ≡ false → (a && b) ≡ false
-first-false b p = rw p
 
 -- ---- the ways in which reading ends
 
@@ -59,15 +49,15 @@ module _ (p : Plan) (e : ℕ) (disks short : List ℕ) where
     unfolding roomFor
     few-disks l = no-room (first-false _ (lt-leb (length (p .disks)) (length disks) (omega (arith, w .blocks))))
 
-    pub few-members : f .blocks ≤ length disks → length short < f .size → Received (got p e) e disks short (Refused NoRoom) disks short
+    pub few-members : length short < f .size → Received (got p e) e disks short (Refused NoRoom) disks short
     unfolding roomFor
-    few-members k l = no-room (either-false (le-leb (length (p .disks)) (length disks) (omega (arith, w .blocks))) (lt-leb (length (p .short)) (length short) (omega (arith, w .size))))
+    few-members l = no-room (second-false (leb (length (p .disks)) (length disks)) (lt-leb (length (p .short)) (length short) (omega (arith, w .size))))
 
     -- both lists were filled
     pub received : {disks′ short′ : List ℕ} (high : ℕ) → high ≡ f .blocks - 1 → f .blocks ≤ length disks → f .size ≤ length short → Holds (times (f .blocks) (inside 0 63) s (f .disks)) disks disks′ → Holds (climb (f .size) 0 high s (f .short)) short short′ → Received (got p e) e disks short (Accepted (record { blocks = f .blocks; time = f .time; size = f .size })) disks′ short′
     unfolding roomFor toldPlan settle heads disksLeft shortLeft Holds
     received {disks′} {short′} high top k l a b =
-        let room : roomFor p disks short ≡ true = both (le-leb (length (p .disks)) (length disks) (omega (arith, w .blocks))) (le-leb (length (p .short)) (length short) (omega (arith, w .size))) in
+        let room : roomFor p disks short ≡ true = paired (le-leb (length (p .disks)) (length disks) (omega (arith, w .blocks))) (le-leb (length (p .short)) (length short) (omega (arith, w .size))) in
         let x : settle (got p e) disks short ≡ got p e = pick-true (got p e) (refused 11) room in
         let ds : disks′ ≡ over (p .disks) disks = rw (w .disks) at a in
         let bs : short′ ≡ over (p .short) short = rw (w .short) at (rw top at b) in

@@ -5,40 +5,34 @@
 --     write-read       writing what `read` accepted gives the same bytes
 use mathlib.Core.Path.{_≡_, refl, sym, ap, _∙_, subst}
 use mathlib.Core.List.{List, _∷_, _++_, append-assoc}
-use Prim.Native.Nat.{ℕ, zero, suc, _-_, _^_, _≤_, _<_}
+use Prim.Native.Nat.{ℕ, _-_, _^_, _≤_, _<_}
 use native.Mathlib.Omega.{arith}
-use lib.ListN.{length, take, drop}
-use lib.Seq.{take-at}
+use lib.ListN.{length, take}
 use Rattle.number.specs.Bytes.{Bytes}
 use Rattle.number.specs.Encode.{encode}
 use Rattle.field.specs.Sheet.{got, _>>=_, pure, times}
 use Rattle.field.specs.Field.{opening, inside, climb}
 use Rattle.field.specs.Put.{spellAll, openingBytes}
 use Rattle.field.specs.declared.Written.the-variants.{Length}
-use Rattle.field.specs.Send.{Draft, sheet, Sent}
+use Rattle.field.specs.Send.{sheet, Sent}
 use Rattle.field.proofs.Sheet.{Step, bind-got, after-got, pure-got}
 use Rattle.field.proofs.Read.{Reads, reads-bind, reads-then, reads-checked, reads-pure, reads-inside, reads-whole}
 use Rattle.field.proofs.Spelt.{Spelt, spelt-join, spelt-whole, inside-spelt}
 use Rattle.field.proofs.Whole.{whole-got}
 use Rattle.field.proofs.Opened.{reads-opening, opening-spelt}
-use Rattle.field.proofs.Sends.{sent-bytes}
 use Rattle.field.specs.Lists.{All, Rises}
 use Rattle.field.proofs.Lists.{reads-times, reads-climb, times-spelt, climb-spelt}
 use Rattle.plan.specs.Plan.{Plan, ifAny, timeOf, sizeOf, listsOf, planFields, planSheet}
 use Rattle.plan.specs.Range.{InRange}
-use Rattle.plan.specs.Receive.{over, Received}
+use Rattle.plan.specs.Receive.{Received}
 use Rattle.plan.specs.Draft.{planNumbers, planBytes, planDraft}
 use Rattle.plan.specs.declared.Head.{Head}
 use Rattle.plan.specs.declared.Answer.the-variants.{Accepted}
-use Rattle.plan.proofs.Drafting.{draft}
+use Rattle.plan.proofs.Bounds.{any-most}
+use Rattle.plan.proofs.Over.{over-front}
 use Rattle.plan.proofs.Receiving.{Took, took}
+use Rattle.plan.proofs.Sending.{plan-drafted, sent-all}
 use Rattle.field.proofs.Spell.{spell-append}
-
--- a bound for no blocks is no larger
-any-most : (q n : ℕ) → ifAny q n ≤ n
-unfolding ifAny
-any-most zero n = omega arith
-any-most (suc q) n = omega arith
 
 -- ---- the bytes, part by part
 
@@ -142,13 +136,9 @@ module _ (s : List ℕ) (b : Bytes s) where
 
 -- ---- what the functions promise
 
-same-plan : (r r′ : ℕ) (ds ds′ bs bs′ : List ℕ) → r ≡ r′ → ds ≡ ds′ → bs ≡ bs′ → _≡_ {A = Plan} (record { time = r; disks = ds; short = bs }) (record { time = r′; disks = ds′; short = bs′ })
+-- two plans with the same values
+pub same-plan : (r r′ : ℕ) (ds ds′ bs bs′ : List ℕ) → r ≡ r′ → ds ≡ ds′ → bs ≡ bs′ → _≡_ {A = Plan} (record { time = r; disks = ds; short = bs }) (record { time = r′; disks = ds′; short = bs′ })
 same-plan r r′ ds ds′ bs bs′ x y z = cc
-
--- the first entries of a list that was filled
-over-first : (xs list : List ℕ) (n : ℕ) → n ≡ length xs → take n (over xs list) ≡ xs
-unfolding over
-over-first xs list n h = take-at xs (drop (length xs) list) n (sym h)
 
 -- writing what `read` accepted gives the same bytes
 pub write-read : (unit t : ℕ) (s : List ℕ) → Bytes s → (disks short disks′ short′ : List ℕ) (h : Head) → Received (planSheet unit t s 0) (length s) disks short (Accepted h) disks′ short′ → planDraft unit t (record { time = h .time; disks = take (h .blocks) disks′; short = take (h .size) short′ }) ≡ sheet s
@@ -156,15 +146,13 @@ write-read unit t s b disks short disks′ short′ h r =
     let w : Took (planSheet unit t s 0) (length s) disks short h disks′ short′ = took (length s) disks short h disks′ short′ (planSheet unit t s 0) r in
     let p : Plan = w .plan in
     let x : (planBytes unit t p ≡ s) × InRange p × (0 < t) = sheet-exact s b unit t p (length s) (w .says) in
-    let ds : take (h .blocks) disks′ ≡ p .disks = ap (take (h .blocks)) (w .disks-left) ∙ over-first (p .disks) disks (h .blocks) (w .blocks) in
-    let bs : take (h .size) short′ ≡ p .short = ap (take (h .size)) (w .short-left) ∙ over-first (p .short) short (h .size) (w .size) in
+    let ds : take (h .blocks) disks′ ≡ p .disks = ap (take (h .blocks)) (w .disks-left) ∙ over-front (p .disks) disks (h .blocks) (sym (w .blocks)) in
+    let bs : take (h .size) short′ ≡ p .short = ap (take (h .size)) (w .short-left) ∙ over-front (p .short) short (h .size) (sym (w .size)) in
     let e : record { time = h .time; disks = take (h .blocks) disks′; short = take (h .size) short′ } ≡ p = same-plan (h .time) (p .time) (take (h .blocks) disks′) (p .disks) (take (h .size) short′) (p .short) (w .time) ds bs in
-    ap (planDraft unit t) e ∙ draft unit t p (x .1 .few) (omega (arith, x .1 .few, x .1 .size-to)) ∙ ap sheet (x .0)
+    ap (planDraft unit t) e ∙ plan-drafted unit t p (x .1) ∙ ap sheet (x .0)
 
 -- reading what `write` wrote gives the same values
 pub read-written : (unit t : ℕ) (p : Plan) → unit < 2 ^ 32 → 0 < t → t < 2 ^ 32 → InRange p → (out after : List ℕ) (n : ℕ) → Sent (planDraft unit t p) out (Length n) after → planSheet unit t (take n after) 0 ≡ got p n
 read-written unit t p u l k r out after n w =
-    let d : planDraft unit t p ≡ sheet (planBytes unit t p) = draft unit t p (r .few) (omega (arith, r .few, r .size-to)) in
-    let v : Sent (sheet (planBytes unit t p)) out (Length n) after = subst (λ (x : Draft). Sent x out (Length n) after) d w in
-    let x : (n ≡ length (planBytes unit t p)) × (take n after ≡ planBytes unit t p) = sent-bytes (planBytes unit t p) out n after v in
+    let x : (n ≡ length (planBytes unit t p)) × (take n after ≡ planBytes unit t p) × (n ≤ length out) = sent-all unit t p r out n after w in
     ap (λ (z : List ℕ). planSheet unit t z 0) (x .1) ∙ sheet-read unit t p u l k r ∙ ap (got p) (sym (x .0))

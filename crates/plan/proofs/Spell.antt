@@ -5,23 +5,20 @@ use Prim.Native.Nat.{ℕ, _+_, _*_, _≤_, _<_}
 use native.Mathlib.Omega.{arith}
 use native.Mathlib.Numerals.{add-one}
 use lib.ListN.{length, take, getD, length-append}
-use lib.Seq.{take-suc, take-length}
+use lib.Seq.{take-suc, take-all}
 use Rattle.number.specs.Encode.{encode, widthOf}
 use Rattle.number.proofs.Encode.{width-bounds}
 use Rattle.field.specs.Put.{spellAll}
-use Rattle.field.proofs.Spell.{spell-append}
+use Rattle.field.proofs.Spell.{spell-append, spell-more, spell-bound}
 
 -- one number behind the others
 pub spell-put : (xs : List ℕ) (v : ℕ) → spellAll encode (xs ++ (v ∷ [])) ≡ spellAll encode xs ++ encode v
 unfolding spellAll
 spell-put xs v = spell-append encode xs (v ∷ []) ∙ ap (λ (z : List ℕ). spellAll encode xs ++ z) (append-nil (encode v))
 
--- one number more of a list, and all of it
+-- one number more of a list
 pub take-next : (xs : List ℕ) (i : ℕ) → i < length xs → take (i + 1) xs ≡ take i xs ++ (getD xs i 0 ∷ [])
 take-next xs i h = ap (λ (k : ℕ). take k xs) (add-one i) ∙ take-suc xs i 0 h
-
-pub take-whole : (xs : List ℕ) (i : ℕ) → i ≡ length xs → take i xs ≡ xs
-take-whole xs i h = ap (λ (k : ℕ). take k xs) h ∙ take-length xs
 
 -- the width of numbers: of none, of one more, of all
 pub width-none : (xs : List ℕ) → _≡_ {A = ℕ} 0 (length (spellAll encode (take 0 xs)))
@@ -32,20 +29,19 @@ pub width-next : (xs : List ℕ) (i n : ℕ) → i < length xs → n ≡ length 
 unfolding widthOf
 width-next xs i n h e =
     ap (λ (k : ℕ). k + length (encode (getD xs i 0))) e
-    ∙ sym (ap (λ (z : List ℕ). length (spellAll encode z)) (take-next xs i h) ∙ ap length (spell-put (take i xs) (getD xs i 0)) ∙ length-append (spellAll encode (take i xs)) (encode (getD xs i 0)))
+    ∙ sym (length-append (spellAll encode (take i xs)) (encode (getD xs i 0))) ∙ ap length (spell-more encode xs i 0 h)
 
 pub width-all : (xs : List ℕ) (i n : ℕ) → i ≡ length xs → n ≡ length (spellAll encode (take i xs)) → n ≡ length (spellAll encode xs)
-width-all xs i n h e = e ∙ ap (λ (z : List ℕ). length (spellAll encode z)) (take-whole xs i h)
+width-all xs i n h e = e ∙ ap (λ (z : List ℕ). length (spellAll encode z)) (take-all i xs (omega arith))
 
 -- five bytes at the most for each number
-pub spell-bound : (xs : List ℕ) → length (spellAll encode xs) ≤ 5 * length xs
-unfolding spellAll widthOf
-spell-bound [] = omega arith
-spell-bound (x ∷ xs) = omega (arith, length-append (encode x) (spellAll encode xs), width-bounds x, spell-bound xs)
+pub numbers-bound : (xs : List ℕ) → length (spellAll encode xs) ≤ 5 * length xs
+unfolding widthOf
+numbers-bound xs = spell-bound encode 5 (λ v. width-bounds v .1) xs
 
 -- a width that was found is small
 pub width-small : (v r : ℕ) → r ≡ widthOf v → r ≤ 5
 width-small v r h = omega (arith, width-bounds v)
 
 pub widths-small : (xs : List ℕ) (r : ℕ) → length xs ≤ 1024 → r ≡ length (spellAll encode xs) → r ≤ 5120
-widths-small xs r l h = omega (arith, spell-bound xs)
+widths-small xs r l h = omega (arith, numbers-bound xs)

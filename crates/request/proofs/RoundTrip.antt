@@ -11,10 +11,9 @@ use borrow.Author.Tests.{ne-eqb, lt-ltb, le-leb, ltb-true}
 use lib.ListN.{length}
 use Rattle.number.specs.Bytes.{Bytes}
 use Rattle.number.specs.Encode.{encode}
-use Rattle.number.proofs.Encode.{width-bounds}
+use Rattle.number.proofs.Encode.{width-top, width-bounds}
 use Rattle.field.specs.Sheet.{got, _>>=_, times}
 use Rattle.field.specs.Field.{whole}
-use Rattle.field.proofs.Spell.{width-two}
 use Rattle.field.specs.Put.{spellAll, openingBytes}
 use Rattle.field.specs.Send.{sheet}
 use Rattle.field.proofs.Read.{Reads, reads-bind, reads-then, reads-pure, reads-require, reads-tested, reads-checked, reads-number, reads-inside, reads-whole}
@@ -111,7 +110,7 @@ longest-written unit t n ms bs h =
       request-length unit t ms refl refl refl (record { count = d .count; bytes = refl; small = blocks-bound n ms (d .blocks) }),
       width-bounds unit,
       width-bounds t,
-      width-two (length ms) (omega (arith, d .count)),
+      width-top 1 (length ms) (omega (arith, d .count)) (omega (arith, d .count)),
       blocks-bound n ms (d .blocks),
       d .count,
     )

@@ -3,7 +3,7 @@
 --     Counting                           so many blocks can be sent, and their bytes are counted
 --     counting-start, counting-step, counting-done, counting-none, counting-many, counting-high     as a loop
 use mathlib.Core.Path.{_≡_, refl, sym, ap, _∙_}
-use mathlib.Core.Bool.{Bool, true, false, not, _&&_, true≢false, and-true}
+use mathlib.Core.Bool.{Bool, true, not, _&&_, true≢false, and-true, and-false}
 use mathlib.Core.List.{List, [], _∷_}
 use Prim.Native.Nat.{ℕ, suc, _+_, _*_, _^_, _≤_, _<_}
 use native.Mathlib.Omega.{arith}
@@ -37,13 +37,9 @@ module _ (n m known rest : ℕ) (l : n ≤ 64) (b : Below n known) (h : m < 2 ^ 
       let s : (d : ℕ) × (d < 64) × (has rest d ≡ true) = mask-some 64 rest r (omega arith) in
       let under : m < 2 ^ n = ltb-true m (2 ^ n) t in
       either (ltb (s .0) n)
-      (λ g. absurd (true≢false (sym (s .2) ∙ w (s .0) ∙ ap (λ (t : Bool). has m (s .0) && not t) (b .holds l (s .0) ∙ g) ∙ none-both (has m (s .0)))))
+      (λ g. absurd (true≢false (sym (s .2) ∙ w (s .0) ∙ ap (λ (t : Bool). has m (s .0) && not t) (b .holds l (s .0) ∙ g) ∙ and-false (has m (s .0)))))
       (λ g. absurd (true≢false (sym (s .2) ∙ beyond (s .0) (ltb-false (s .0) n g) ∙ has-above n under (ltb-false (s .0) n g)))))
       (λ f. ltb-false m (2 ^ n) f)
-    where
-      none-both : (t : Bool) → (t && false) ≡ false
-      none-both true = refl
-      none-both false = refl
 
 -- ---- block by block
 

@@ -2,14 +2,14 @@
 --     disks-in, disks-out                                 one place more of a number of copies
 --     disk-in, disk-out                                   the loop over the disks of a block
 --     block-length, block-put                             the bytes of a block
---     blocks-room, blocks-more                            the loop over the blocks
+--     blocks-more, blocks-all                             the loop over the blocks
 use mathlib.Core.Path.{_≡_, refl, sym, ap, _∙_, subst}
 use mathlib.Core.Bool.{Bool, true, false}
 use mathlib.Core.List.{List, [], _∷_, _++_, append-nil}
 use Prim.Native.Nat.{ℕ, zero, suc, _+_, _-_, _≤_, _<_}
 use native.Mathlib.Omega.{arith}
-use lib.ListN.{length, take, drop, getD, length-append}
-use lib.Seq.{take-length, split-at}
+use lib.ListN.{length, take, getD, length-append}
+use lib.Seq.{take-length}
 use Rattle.number.specs.Encode.{encode, widthOf}
 use Rattle.number.proofs.Choice.{pick-true, pick-false, either}
 use Rattle.number.proofs.Encode.{width-one}
@@ -116,22 +116,6 @@ module _ (m : ℕ) where
         subst (λ (x : List ℕ). Written out at (x ++ spellAll encode (disksBelow 64 m)) after next) q (written-join count-put w)
 
 -- ---- block after block
-
-module _ {A : Type 0} (spell : A → List ℕ) (ms : List A) (i : ℕ) (z : A) (l : i < length ms) where
-  spell-split : spellAll spell ms ≡ spellAll spell (take i ms) ++ (spell (getD ms i z) ++ spellAll spell (drop (suc i) ms))
-  unfolding spellAll
-  spell-split = ap (spellAll spell) (split-at ms i z l) ∙ spell-append spell (take i ms) (getD ms i z ∷ drop (suc i) ms)
-
-  pub spell-room : {out : List ℕ} {at p : ℕ} {mid : List ℕ} → Written out at (spellAll spell (take i ms)) mid p → at + length (spellAll spell ms) ≤ length out → p + length (spell (getD ms i z)) ≤ length mid
-  spell-room {out} {at} {p} {mid} w h =
-      omega (
-        arith,
-        w .place,
-        written-length w,
-        ap length spell-split,
-        length-append (spellAll spell (take i ms)) (spell (getD ms i z) ++ spellAll spell (drop (suc i) ms)),
-        length-append (spell (getD ms i z)) (spellAll spell (drop (suc i) ms)),
-      )
 
 module _ (ms : List ℕ) (i : ℕ) {out : List ℕ} {at : ℕ} {mid : List ℕ} {p : ℕ} where
   pub blocks-more : {next : ℕ} {after : List ℕ} → i < length ms → Written out at (spellAll blockBytes (take i ms)) mid p → Written mid p (blockBytes (getD ms i 0)) after next → Written out at (spellAll blockBytes (take (i + 1) ms)) after next

@@ -1,24 +1,21 @@
 -- Laws of the shelf: the line of each outcome, of a plan sheet in a lent buffer, and of each call; and that there is no second answer.
 use mathlib.Core.Path.{_≡_, refl, sym, ap, _∙_, subst}
 use mathlib.Core.List.{List, _++_}
-use Prim.Native.Nat.{ℕ, _+_, _-_, _≤_, _<_}
+use Prim.Native.Nat.{ℕ, _-_, _≤_, _<_}
 use native.Mathlib.Omega.{arith}
-use borrow.Author.Tests.{eq-eqb, ne-eqb, le-leb, lt-leb, leb-false}
-use lib.Dec.{leb}
+use borrow.Author.Tests.{eq-eqb, ne-eqb, le-leb, lt-leb}
 use lib.ListN.{length, take, drop, length-append}
 use lib.Seq.{take-append-le}
-use Rattle.number.proofs.Choice.{pick-true, pick-false, either}
+use Rattle.number.proofs.Choice.{pick-true, pick-false}
 use Rattle.field.specs.declared.Refusal.{Refusal}
-use Rattle.field.specs.declared.Written.{Written}
 use Rattle.field.specs.declared.Written.the-variants.{Length}
 use Rattle.field.specs.declared.Written.the-variants.{Refused as NotWritten}
 use Rattle.field.specs.Refusal.{numberOf}
-use Rattle.field.specs.Send.{Draft, toldWritten, answerTo, Sent}
-use Rattle.field.specs.Send.{sheet as drafted}
+use Rattle.field.specs.Send.{toldWritten}
 use Rattle.field.specs.Sheet.{Out, got, refused}
-use Rattle.plan.specs.Draft.{planBytes, planDraft}
+use Rattle.plan.specs.Draft.{planBytes}
 use Rattle.plan.specs.Plan.{Plan}
-use Rattle.plan.specs.Range.{InRange}
+use Rattle.plan.proofs.Sending.{sent-all, sent-none}
 use Rattle.request.specs.Request.{requestSheet}
 use Rattle.unit.specs.declared.Answer.{Answer}
 use Rattle.unit.specs.declared.Answer.the-variants.{Accepted}
@@ -33,6 +30,7 @@ use Rattle.unit.specs.Told.{told, toldAnswer}
 use Rattle.unit.specs.Unit.{tenancyOf}
 use Rattle.unit.proofs.Plans.{plan-for-unique}
 use Rattle.unit.proofs.Sound.{sound-rent, sound-set, sound-back}
+use Rattle.unit.proofs.Within.{answered-as, answered-within}
 use Rattle.stream.specs.declared.Call.{Call}
 use Rattle.stream.specs.declared.Call.the-variants.{Rent, Settings, Request, Return}
 use Rattle.stream.specs.declared.Call.the-variants.{Refused as NoCall}
@@ -45,7 +43,6 @@ use Rattle.line.specs.Line.{spoken, sheetLine}
 use Rattle.line.specs.Printed.{Printed}
 use Rattle.service.specs.Shelf.{verdictLine, sentLine, stopLine, Sheets, Does, Serves, Served}
 use Rattle.line.proofs.Adding.{no-line, printed-unique}
-use Rattle.line.proofs.Sending.{plan-drafted, sent-all}
 use Rattle.line.proofs.Lines.{printed-same}
 
 -- ---- the lines
@@ -73,32 +70,13 @@ stop-more out m k e q = printed-same (sym (pick-true _ _ (eq-eqb m 1 q)) ∙ ap 
 pub part-within : (ys zs : List ℕ) {k : ℕ} → k ≤ length ys → k ≤ length (ys ++ zs)
 part-within ys zs h = omega (arith, length-append ys zs)
 
--- a plan sheet that was sent lies within the buffer
-reply-within : (u : Unit) (out : List ℕ) (o : Out (List ℕ)) (n : ℕ) (after : List ℕ) → Replied u o out (Length n) after → n ≤ length out
-unfolding Replied Sheeted toldWritten
-reply-within u out (refused m) n after w = absurd (let a : got tt n ≡ refused m = w .0 in let z : _≡_ {A = ℕ} 0 1 = cc in omega arith)
-reply-within u out (got copies e) n after w = sent-all (u .number) (tenancyOf u) (w .0) (w .1 .range) out n after (w .2) .0
-
-pub answered-within : (u : Unit) (out s : List ℕ) (r : Planned) (after : List ℕ) → Answered u s out r after → (n : ℕ) → r .answer ≡ Length n → n ≤ length out
-answered-within u out s r after a n q = reply-within u out _ n after (subst (λ (x : Written). Replied u (requestSheet (u .number) (tenancyOf u) (u .table .disks) s 0) out x after) q (a .reply))
-
--- why a plan sheet is not sent: it is longer than the buffer
-sent-long : (unit t : ℕ) (p : Plan) → InRange p → (out : List ℕ) (e : Refusal) (after : List ℕ) → Sent (planDraft unit t p) out (NotWritten e) after → (length out < length (planBytes unit t p)) × (numberOf e ≡ 11)
-unfolding toldWritten answerTo
-sent-long unit t p r out e after w =
-    let d : planDraft unit t p ≡ drafted (planBytes unit t p) = plan-drafted unit t p r in
-    let v : Sent (drafted (planBytes unit t p)) out (NotWritten e) after = subst (λ (x : Draft). Sent x out (NotWritten e) after) d w in
-    either (leb (length (planBytes unit t p)) (length out))
-    (λ y. absurd (let a : refused (numberOf e) ≡ got tt (length (planBytes unit t p)) = v .answer ∙ pick-true _ _ y in let z : _≡_ {A = ℕ} 0 1 = cc in omega arith))
-    (λ f. let a : refused (numberOf e) ≡ refused 11 = v .answer ∙ pick-false _ _ f in (leb-false (length (planBytes unit t p)) (length out) f, cc))
-
 module _ (u : Unit) (out : List ℕ) (room : ℕ) (m : length out ≡ room) {buf buf′ : List ℕ} {n : ℕ} where
   reply-sent : (o : Out (List ℕ)) (k : ℕ) (after : List ℕ) → Replied u o out (Length k) after → Printed (sheetLine (take k after)) buf n buf′ → (text : List ℕ) × Sheets u room o text × Printed text buf n buf′
   unfolding Replied Sheeted Sheets toldWritten sentLine
   reply-sent (refused j) k after w p = absurd (let a : got tt k ≡ refused j = w .0 in let z : _≡_ {A = ℕ} 0 1 = cc in omega arith)
   reply-sent (got copies e) k after w p =
       let bs : List ℕ = planBytes (u .number) (tenancyOf u) (w .0) in
-      let x : (k ≤ length out) × (take k after ≡ bs) × (k ≡ length bs) = sent-all (u .number) (tenancyOf u) (w .0) (w .1 .range) out k after (w .2) in
+      let x : (k ≡ length bs) × (take k after ≡ bs) × (k ≤ length out) = sent-all (u .number) (tenancyOf u) (w .0) (w .1 .range) out k after (w .2) in
       (sheetLine bs, (w .0, w .1, sym (pick-true _ _ (le-leb (length bs) room (omega (arith, x .0, x .2))))), printed-same (ap sheetLine (x .1)) p)
 
   reply-kept : (o : Out (List ℕ)) (e : Refusal) (after : List ℕ) → Replied u o out (NotWritten e) after → Printed (spoken (Refused (numberOf e))) buf n buf′ → (text : List ℕ) × Sheets u room o text × Printed text buf n buf′
@@ -109,17 +87,17 @@ module _ (u : Unit) (out : List ℕ) (room : ℕ) (m : length out ≡ room) {buf
       (spoken (Refused (numberOf e)), ap (λ (x : ℕ). spoken (Refused x)) i, p)
   reply-kept (got copies x) e after w p =
       let bs : List ℕ = planBytes (u .number) (tenancyOf u) (w .0) in
-      let y : (length out < length bs) × (numberOf e ≡ 11) = sent-long (u .number) (tenancyOf u) (w .0) (w .1 .range) out e after (w .2) in
+      let y : (length out < length bs) × (numberOf e ≡ 11) = sent-none (u .number) (tenancyOf u) (w .0) (w .1 .range) out e after (w .2) in
       (spoken (Refused (numberOf e)), (w .0, w .1, ap (λ (i : ℕ). spoken (Refused i)) (y .1) ∙ sym (pick-false _ _ (lt-leb (length bs) room (omega (arith, y .0))))), p)
 
   module _ (s : List ℕ) (r : Planned) (after : List ℕ) (a : Answered u s out r after) where
     pub request-sent : (k : ℕ) → r .answer ≡ Length k → (zs : List ℕ) → length after ≡ length out → Printed (sheetLine (take k (after ++ zs))) buf n buf′ → (text : List ℕ) × Sheets u room (requestSheet (u .number) (tenancyOf u) (u .table .disks) s 0) text × Printed text buf n buf′
     request-sent k q zs l p =
         let w : k ≤ length after = omega (arith, answered-within u out s r after a k q) in
-        reply-sent _ k after (subst (λ (x : Written). Replied u (requestSheet (u .number) (tenancyOf u) (u .table .disks) s 0) out x after) q (a .reply)) (printed-same (ap sheetLine (take-append-le k after zs w)) p)
+        reply-sent _ k after (answered-as u out s r after a (Length k) q) (printed-same (ap sheetLine (take-append-le k after zs w)) p)
 
     pub request-kept : (e : Refusal) → r .answer ≡ NotWritten e → Printed (spoken (Refused (numberOf e))) buf n buf′ → (text : List ℕ) × Sheets u room (requestSheet (u .number) (tenancyOf u) (u .table .disks) s 0) text × Printed text buf n buf′
-    request-kept e q p = reply-kept _ e after (subst (λ (x : Written). Replied u (requestSheet (u .number) (tenancyOf u) (u .table .disks) s 0) out x after) q (a .reply)) p
+    request-kept e q p = reply-kept _ e after (answered-as u out s r after a (NotWritten e) q) p
 
 -- ---- each call
 

@@ -11,8 +11,10 @@ use Prim.Native.Nat.{ℕ, zero, suc, _+_, _-_, _≤_, _<_}
 use native.Mathlib.Omega.{arith}
 use lib.ListN.{length, getD, replicate, length-append, length-replicate, List·getD-append}
 use lib.Seq.{getD-append-add}
+use Rattle.number.proofs.Choice.{both, paired}
 use Rattle.field.specs.Sheet.{Out, got, refused, _>>=_, pure, times}
 use Rattle.field.specs.Field.{opening, tenancy, inside}
+use Rattle.field.proofs.Lists.{replicate-at}
 use Rattle.field.proofs.Sheet.{Step, bind-got, after-got, pure-got}
 use Rattle.field.proofs.Whole.{whole-got}
 use Rattle.field.proofs.Opened.{Opened, opening-steps}
@@ -24,7 +26,7 @@ use Rattle.settings.specs.Row.{disk, row, inRange, allInRange}
 use Rattle.settings.specs.Table.{padded, table, noTable, Filled}
 use Rattle.settings.specs.Sheet.{fields, settingsSheet}
 use Rattle.settings.specs.Told.{tableOf, Told}
-use Rattle.settings.proofs.Ranges.{range-in, both, paired}
+use Rattle.settings.proofs.Ranges.{range-in}
 use Rattle.field.proofs.Values.{inside-range, times-all}
 
 -- ---- the fields of a row
@@ -149,11 +151,6 @@ each [] i h g = absurd (omega arith)
 each (r ∷ rs) zero h g = both (inRange r) (allInRange rs) g .0
 each (r ∷ rs) (suc i) h g = each rs i (omega arith) (both (inRange r) (allInRange rs) g .1)
 
-zeros : (n i : ℕ) → getD (replicate n (disk 0 0 0)) i (disk 0 0 0) ≡ disk 0 0 0
-zeros zero i = refl
-zeros (suc n) zero = refl
-zeros (suc n) (suc i) = zeros n i
-
 module _ {T : Table} (w : Filled T) where
   -- there are 64 rows
   pub filled-length : length (T .rows) ≡ 64
@@ -173,4 +170,4 @@ module _ {T : Table} (w : Filled T) where
   filled-zero i h =
       let k : i ≡ length (w .given) + (i - T .disks) = omega (arith, w .count) in
       ap (λ x. getD x i (disk 0 0 0)) (w .held) ∙ ap (λ n. getD (padded (w .given)) n (disk 0 0 0)) k
-      ∙ getD-append-add (w .given) (replicate (64 - length (w .given)) (disk 0 0 0)) (i - T .disks) (disk 0 0 0) ∙ zeros (64 - length (w .given)) (i - T .disks)
+      ∙ getD-append-add (w .given) (replicate (64 - length (w .given)) (disk 0 0 0)) (i - T .disks) (disk 0 0 0) ∙ replicate-at (disk 0 0 0) (64 - length (w .given)) (i - T .disks)

@@ -1,34 +1,23 @@
 -- The ranges of a row, and how wide a row within them is.
---     both, paired, InRange, in-range, range-in     what the test of a row says
---     width-top               a number below a power of 128 has so many bytes at the most
+--     InRange, in-range, range-in     what the test of a row says
 --     row-length, row-top     the bytes of a row: ten at the most
 --     row-sized, row-out, row-small     what the width of a row says
-use mathlib.Core.Path.{_≡_, refl, sym, _∙_, subst}
-use mathlib.Core.Bool.{Bool, true, false, _&&_}
+use mathlib.Core.Path.{_≡_, sym, _∙_, subst}
+use mathlib.Core.Bool.{true, false, _&&_}
 use mathlib.Core.List.{_++_}
-use Prim.Native.Nat.{ℕ, zero, suc, _+_, _/_, _^_, _≤_, _<_}
+use Prim.Native.Nat.{ℕ, _+_, _≤_}
 use native.Mathlib.Omega.{arith}
-use native.Mathlib.Nat.{pow-suc}
-use borrow.Author.Tests.{le-leb, leb-true, ltb-true, ltb-false}
-use lib.Dec.{leb, ltb}
+use borrow.Author.Tests.{le-leb, leb-true}
+use lib.Dec.{leb}
 use lib.ListN.{length, length-append}
 use Rattle.number.specs.Encode.{encode, widthOf}
-use Rattle.number.proofs.Choice.{pick-true, pick-false, pick-elim, either}
-use Rattle.number.proofs.Encode.{width-one, width-more, width-bounds}
+use Rattle.number.proofs.Choice.{pick-true, pick-false, pick-elim, either, both, paired}
+use Rattle.number.proofs.Encode.{width-top, width-bounds}
 use Rattle.settings.specs.declared.Row.{Row}
 use Rattle.settings.specs.Row.{inRange, rowBytes}
 use Rattle.settings.specs.Parts.{rowWidth}
 
 -- ---- the test of a row
-
--- both tests hold
-pub both : (a b : Bool) → (a && b) ≡ true → (a ≡ true) × (b ≡ true)
-both true b h = (refl, h)
-both false b h = (h, cc)
-
--- where each does, both do
-pub paired : {a b : Bool} → a ≡ true → b ≡ true → (a && b) ≡ true
-paired {a} {b} p q = rw (p, q)
 
 pub record InRange (r : Row) : Type 0 where
   pub cost-low : 1 ≤ r .cost
@@ -49,13 +38,6 @@ unfolding inRange
 range-in r w = paired (le-leb _ _ (w .cost-low)) (paired (le-leb _ _ (w .cost-high)) (paired (le-leb _ _ (w .load-high)) (le-leb _ _ (w .delay-high))))
 
 -- ---- the bytes of a row
-
-pub width-top : (k v : ℕ) → v < 2 ^ 32 → v < 128 ^ suc k → widthOf v ≤ suc k
-width-top zero v l h = omega (arith, width-one v h)
-width-top (suc k) v l h =
-    either (ltb v 128)
-    (λ t. omega (arith, width-one v (ltb-true v 128 t)))
-    (λ f. omega (arith, width-more v (ltb-false v 128 f) l, width-top k (v / 128) (omega arith) (omega (arith, pow-suc 128 (suc k)))))
 
 pub row-length : (r : Row) → length (rowBytes r) ≡ widthOf (r .cost) + widthOf (r .load) + widthOf (r .delay)
 unfolding rowBytes widthOf

@@ -12,7 +12,7 @@ use lib.ListN.{length, take, replicate, length-map}
 use lib.Seq.{take-at}
 use Rattle.number.specs.Bytes.{Bytes}
 use Rattle.number.specs.Encode.{encode}
-use Rattle.number.proofs.Choice.{pick-true}
+use Rattle.number.proofs.Choice.{pick-true, both, paired}
 use Rattle.field.specs.declared.Written.{Written}
 use Rattle.field.specs.declared.Written.the-variants.{Length}
 use Rattle.field.specs.Put.{paste, spellAll, openingBytes}
@@ -30,7 +30,7 @@ use Rattle.settings.specs.Row.{disk, row, inRange, allInRange, rowBytes}
 use Rattle.settings.specs.Table.{padded, table, disksOf, costs, loads, delays}
 use Rattle.settings.specs.Sheet.{fields, settingsSheet}
 use Rattle.settings.specs.Draft.{rowsOf, headBytes, sheetBytes, even, settingsDraft}
-use Rattle.settings.proofs.Ranges.{InRange, in-range, range-in, both, paired}
+use Rattle.settings.proofs.Ranges.{InRange, in-range, range-in}
 use Rattle.settings.proofs.Rows.{length-rows}
 use Rattle.settings.proofs.Writing.{draft-either, draft-whole}
 use Rattle.settings.proofs.Accepted.{RowGot, row-steps, rows-all, SheetGot, sheet-steps}
@@ -74,7 +74,7 @@ module _ (unit t : ℕ) (cs ls ds : List ℕ) where
       (λ none. let g : got tt n ≡ refused 6 = w .answer ∙ ap (λ d. answerTo d out) none in absurd (let z : _≡_ {A = ℕ} 0 1 = cc in omega arith))
       (λ k.
       let long : length (rowsOf cs ls ds) ≡ length cs = length-rows cs ls ds (k .loads) (k .delays) in
-      let b : (n ≡ length (sheetBytes unit t (rowsOf cs ls ds))) × (take n after ≡ sheetBytes unit t (rowsOf cs ls ds)) =
+      let b : (n ≡ length (sheetBytes unit t (rowsOf cs ls ds))) × (take n after ≡ sheetBytes unit t (rowsOf cs ls ds)) × (n ≤ length out) =
       sent-bytes _ out n after (subst (λ d. Sent d out (Length n) after) (k .is) w) in
       ap (λ x. settingsSheet unit t x 0) (b .1)
       ∙ reads-sheet unit t (rowsOf cs ls ds) u v (k .rented) (omega (arith, k .some)) (omega (arith, k .few)) (k .good)

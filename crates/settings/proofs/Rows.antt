@@ -1,26 +1,25 @@
 -- The rows of three lists, one after another.
 --     length-rows, row-of       how many rows, and each of them
---     spell-part                the bytes of the first rows
 --     rows-top, rows-small      ten bytes a row at the most
 --     rows-sized, rows-out      what the width of all rows says
 --     Sized, sized-start, sized-step, sized-stop, sized-done    the loop that finds their length
 use mathlib.Core.Path.{_≡_, refl, sym, ap, _∙_, subst}
-use mathlib.Core.Bool.{Bool, true, false, _&&_}
+use mathlib.Core.Bool.{true, false, _&&_, and-assoc}
 use mathlib.Core.List.{List, [], _∷_, _++_}
 use Prim.Native.Nat.{ℕ, zero, suc, _+_, _*_, _≤_, _<_}
 use native.Mathlib.Omega.{arith}
 use native.Mathlib.Numerals.{add-one}
-use lib.ListN.{length, take, drop, getD, length-append, take-append-drop}
+use lib.ListN.{length, take, drop, getD, length-append}
 use lib.Seq.{take-suc, take-all, split-at, length-take-le}
-use Rattle.number.proofs.Choice.{pick-true, pick-false, pick-elim, either}
+use Rattle.number.proofs.Choice.{pick-true, pick-false, pick-elim, either, both, paired, second-false}
 use Rattle.number.proofs.Encode.{width-bounds}
 use Rattle.field.specs.Put.{spellAll}
-use Rattle.field.proofs.Spell.{spell-append, spell-more}
+use Rattle.field.proofs.Spell.{spell-more}
 use Rattle.settings.specs.declared.Row.{Row}
 use Rattle.settings.specs.Row.{disk, inRange, allInRange, rowBytes}
 use Rattle.settings.specs.Draft.{rowsOf}
 use Rattle.settings.specs.Parts.{rowsWidth}
-use Rattle.settings.proofs.Ranges.{both, paired, row-length, row-top}
+use Rattle.settings.proofs.Ranges.{row-length, row-top}
 
 -- ---- each row
 
@@ -46,34 +45,19 @@ row-of (c ∷ cs) (l ∷ ls) [] i p q h = absurd (omega arith)
 row-of (c ∷ cs) (l ∷ ls) (d ∷ ds) zero p q h = refl
 row-of (c ∷ cs) (l ∷ ls) (d ∷ ds) (suc i) p q h = row-of cs ls ds i (omega arith) (omega arith) (omega arith)
 
--- ---- the bytes of rows
-
-module _ {A : Type 0} (f : A → List ℕ) (xs : List A) (i : ℕ) where
-  pub spell-part : length (spellAll f (take i xs)) ≤ length (spellAll f xs)
-  spell-part =
-      omega (arith, ap length (spell-append f (take i xs) (drop i xs)), length-append (spellAll f (take i xs)) (spellAll f (drop i xs)), ap (λ (z : List A). length (spellAll f z)) (take-append-drop i xs))
-
 -- ---- rows in range
-
-assoc : (a b c : Bool) → (a && (b && c)) ≡ ((a && b) && c)
-assoc true b c = refl
-assoc false b c = refl
 
 all-append : (xs ys : List Row) → allInRange (xs ++ ys) ≡ (allInRange xs && allInRange ys)
 unfolding allInRange
 all-append [] ys = refl
-all-append (x ∷ xs) ys = ap (λ b. inRange x && b) (all-append xs ys) ∙ assoc (inRange x) (allInRange xs) (allInRange ys)
-
-pub no-and : (a b : Bool) → b ≡ false → (a && b) ≡ false
-no-and true b h = h
-no-and false b h = refl
+all-append (x ∷ xs) ys = ap (λ b. inRange x && b) (all-append xs ys) ∙ sym (and-assoc (inRange x) (allInRange xs) (allInRange ys))
 
 -- one that is not in range
 all-out : (rows : List Row) (i : ℕ) → i < length rows → inRange (getD rows i (disk 0 0 0)) ≡ false → allInRange rows ≡ false
 unfolding allInRange
 all-out rows i h f =
     ap allInRange (split-at rows i (disk 0 0 0) h) ∙ all-append (take i rows) (getD rows i (disk 0 0 0) ∷ drop (suc i) rows)
-    ∙ no-and (allInRange (take i rows)) _ (ap (λ b. b && allInRange (drop (suc i) rows)) f)
+    ∙ second-false (allInRange (take i rows)) (ap (λ b. b && allInRange (drop (suc i) rows)) f)
 
 -- one more
 all-more : (rows : List Row) (i : ℕ) → i < length rows → allInRange (take i rows) ≡ true → inRange (getD rows i (disk 0 0 0)) ≡ true → allInRange (take (i + 1) rows) ≡ true

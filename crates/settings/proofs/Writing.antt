@@ -14,23 +14,22 @@ use lib.Dec.{eqb, leb, ltb}
 use lib.ListN.{length, take, getD, length-append}
 use lib.Seq.{take-all}
 use Rattle.number.specs.Encode.{encode, widthOf}
-use Rattle.number.proofs.Choice.{pick-true, pick-false, pick-elim, either}
+use Rattle.number.proofs.Choice.{pick-true, pick-false, pick-elim, either, both, paired, second-false}
 use Rattle.number.proofs.Encode.{width-one}
 use Rattle.field.specs.Put.{spellAll, openingBytes, Written}
 use Rattle.field.specs.declared.Refusal.the-variants.{Range, NoRoom}
 use Rattle.field.specs.declared.Written.the-variants.{Length, Refused}
 use Rattle.field.specs.Refusal.{numberOf}
 use Rattle.field.specs.Send.{sheet, none, Sent}
-use Rattle.field.proofs.Puts.{written-none, written-length, written-join}
+use Rattle.field.proofs.Puts.{written-none, written-length, written-join, spell-room}
 use Rattle.field.proofs.Opened.{opening-length}
 use Rattle.field.proofs.Sends.{sent-refused, sent-long, sent-fits}
 use Rattle.settings.specs.declared.Row.{Row}
 use Rattle.settings.specs.Row.{disk, allInRange, rowBytes}
 use Rattle.settings.specs.Draft.{rowsOf, headBytes, sheetBytes, even, settingsDraft}
 use Rattle.settings.specs.Parts.{rowsWidth, draftWidth}
-use Rattle.settings.proofs.Ranges.{both, paired}
 use Rattle.field.proofs.Spell.{spell-more}
-use Rattle.settings.proofs.Rows.{length-rows, spell-part, no-and, rows-sized, rows-out}
+use Rattle.settings.proofs.Rows.{length-rows, rows-sized, rows-out}
 
 -- ---- the loop over the rows
 
@@ -50,8 +49,7 @@ module _ {rows : List Row} {out : List ℕ} {start : ℕ} {mid : List ℕ} {p i 
 
     -- one row more has room
     pub puts-room : start + length (spellAll rowBytes rows) ≤ length out → p + length (rowBytes r) ≤ length mid
-    puts-room l =
-        omega (arith, w .done .place, written-length (w .done), ap length more, length-append (spellAll rowBytes (take i rows)) (rowBytes r), spell-part rowBytes rows (i + 1))
+    puts-room l = subst (λ (x : Row). p + length (rowBytes x) ≤ length mid) e (spell-room rowBytes rows i (disk 0 0 0) h (w .done) l)
 
     pub puts-step : {after : List ℕ} {next : ℕ} → Written mid p (rowBytes r) after next → RowsPut rows out start after next (i + 1)
     puts-step {after} {next} u = record { below = omega arith; done = subst (λ (x : List ℕ). Written out start x after next) (sym more) (written-join (w .done) u) }
@@ -144,22 +142,22 @@ module _ (unit t : ℕ) (cs ls ds : List ℕ) where
 
   pub width-loads : (length ls ≡ length cs → ⊥) → 0 ≡ draftWidth (settingsDraft unit t cs ls ds)
   unfolding even
-  width-loads z = draft-refused (no-and (ltb 0 t) _ (ap (λ b. b && eqb (length ds) (length cs)) (ne-eqb _ _ z)))
+  width-loads z = draft-refused (second-false (ltb 0 t) (ap (λ b. b && eqb (length ds) (length cs)) (ne-eqb _ _ z)))
 
   pub width-delays : (length ds ≡ length cs → ⊥) → 0 ≡ draftWidth (settingsDraft unit t cs ls ds)
   unfolding even
-  width-delays z = draft-refused (no-and (ltb 0 t) _ (no-and (eqb (length ls) (length cs)) _ (ne-eqb _ _ z)))
+  width-delays z = draft-refused (second-false (ltb 0 t) (second-false (eqb (length ls) (length cs)) (ne-eqb _ _ z)))
 
   pub width-few : length cs < 1 → 0 ≡ draftWidth (settingsDraft unit t cs ls ds)
   width-few l = draft-out (ap (λ b. b && (leb (length cs) 64 && allInRange (rowsOf cs ls ds))) (lt-leb 1 (length cs) l))
 
   pub width-many : 64 < length cs → 0 ≡ draftWidth (settingsDraft unit t cs ls ds)
-  width-many l = draft-out (no-and (leb 1 (length cs)) _ (ap (λ b. b && allInRange (rowsOf cs ls ds)) (lt-leb (length cs) 64 l)))
+  width-many l = draft-out (second-false (leb 1 (length cs)) (ap (λ b. b && allInRange (rowsOf cs ls ds)) (lt-leb (length cs) 64 l)))
 
   module _ {w : ℕ} (p : length ls ≡ length cs) (q : length ds ≡ length cs) (some : 1 ≤ length cs) (e : w ≡ rowsWidth (rowsOf cs ls ds)) where
     pub width-rows : w ≡ 0 → 0 ≡ draftWidth (settingsDraft unit t cs ls ds)
     width-rows z =
-        draft-out (no-and (leb 1 (length cs)) _ (no-and (leb (length cs) 64) _ (rows-out (rowsOf cs ls ds) w (omega (arith, length-rows cs ls ds p q)) e z)))
+        draft-out (second-false (leb 1 (length cs)) (second-false (leb (length cs) 64) (rows-out (rowsOf cs ls ds) w (omega (arith, length-rows cs ls ds p q)) e z)))
 
     pub width-sheet : {a b : ℕ} → (t ≡ 0 → ⊥) → length cs ≤ 64 → (w ≡ 0 → ⊥) → a ≡ widthOf unit → b ≡ widthOf t → 2 + a + b + w ≡ draftWidth (settingsDraft unit t cs ls ds)
     unfolding even draftWidth

@@ -1,6 +1,5 @@
 -- Laws of sheets and calls framed in a stream of bytes: the answer in each case, and that there is no second.
 use mathlib.Core.Path.{_≡_, refl, sym, ap, _∙_, subst}
-use mathlib.Core.Bool.{true}
 use mathlib.Core.List.{List}
 use Prim.Native.Nat.{ℕ, _+_, _-_, _≤_, _<_}
 use native.Mathlib.Omega.{arith}
@@ -15,10 +14,11 @@ use Rattle.number.proofs.Decode.{decode-within}
 use Rattle.field.specs.declared.Refusal.{Refusal}
 use Rattle.field.specs.Field.{taken, number, inside}
 use Rattle.field.specs.Refusal.{numberOf}
-use Rattle.field.specs.Sheet.{Out, got, refused, Parser, _>>_, pure, require}
+use Rattle.field.specs.Sheet.{Out, got, refused, Parser, pure}
 use Rattle.field.proofs.Readers.{number-past, inside-got, inside-above, inside-stops}
-use Rattle.field.proofs.Sheet.{Step, bind-got, passed, pure-got, next, stops}
+use Rattle.field.proofs.Sheet.{next, stops}
 use Rattle.field.proofs.Unique.{number-injective}
+use Rattle.field.proofs.Values.{inside-range}
 use Rattle.stream.specs.declared.Span.{Span}
 use Rattle.stream.specs.declared.Span.the-variants.{Part}
 use Rattle.stream.specs.declared.Span.the-variants.{Refused as NoSheet}
@@ -42,15 +42,6 @@ number-within s at v e h =
     either (leb at (length s))
     (λ t. ended-within s at v e (decode (drop at s)) refl (leb-true _ _ t) h)
     (λ f. absurd (let x : refused 1 ≡ got v e = sym (number-past s at (leb-false _ _ f)) ∙ h in let z : _≡_ {A = ℕ} 0 1 = cc in omega arith))
-
--- a number that was taken is not above its range
-inside-high : (low high : ℕ) (s : List ℕ) (at v e : ℕ) → inside low high s at ≡ got v e → v ≤ high
-unfolding inside
-inside-high low high s at v e h =
-    let w : Step (number s at) (λ x n. (require (leb low x) 6 >> (require (leb x high) 6 >> pure x)) s n) v e = bind-got number s at v e (λ x. require (leb low x) 6 >> (require (leb x high) 6 >> pure x)) h in
-    let g : (leb low (w .found) ≡ true) × ((require (leb (w .found) high) 6 >> pure (w .found)) s (w .mid) ≡ got v e) = passed _ 6 _ s (w .mid) v e (w .last) in
-    let k : (leb (w .found) high ≡ true) × (pure (w .found) s (w .mid) ≡ got v e) = passed _ 6 _ s (w .mid) v e (g .1) in
-    omega (arith, leb-true (w .found) high (k .0), pure-got (w .found) v s (w .mid) e (k .1) .0)
 
 -- ---- a sheet
 
@@ -126,7 +117,7 @@ module _ (s : List ℕ) (at : ℕ) where
   -- a request's room and sheet
   pub request-framed : (room e from to : ℕ) → inside 0 4096 s at ≡ got room e → (sheet s e ≡ got (part s from to) to) × Within s from to → Framed s (ofRequest s at) (Request room from to)
   unfolding ofRequest pure toldCall Held
-  request-framed room e from to h p = record { answer = sym (next (inside 0 4096) _ s at h ∙ next sheet _ s e (p .0)); held = (p .1, inside-high 0 4096 s at room e h) }
+  request-framed room e from to h p = record { answer = sym (next (inside 0 4096) _ s at h ∙ next sheet _ s e (p .0)); held = (p .1, inside-range s at 0 4096 room e h .1) }
 
   pub request-sheet-stops : (room e : ℕ) (x : Refusal) → inside 0 4096 s at ≡ got room e → sheet s e ≡ refused (numberOf x) → Framed s (ofRequest s at) (Refused x)
   unfolding ofRequest

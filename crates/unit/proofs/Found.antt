@@ -2,17 +2,18 @@
 --     spelled-case     the engine's case is the unit's
 --     found-plan       the engine's answer, cut to the request's blocks
 use mathlib.Core.Path.{_≡_, refl, sym, ap, _∙_, subst, fun-ext}
-use mathlib.Core.Bool.{Bool, true, false, _||_, or-assoc, or-false}
+use mathlib.Core.Bool.{Bool, _||_, or-assoc, or-false}
 use mathlib.Core.List.{List, [], _∷_, map}
 use Prim.Native.Nat.{ℕ, zero, suc, _+_, _-_, _≤_, _<_}
 use native.Mathlib.Omega.{arith}
 use borrow.Author.Tests.{ltb-true, ltb-false}
-use lib.Dec.{eqb, leb, ltb}
-use lib.ListN.{length, getD, take, drop, replicate, length-take, length-map, length-replicate, List·getD-eq-default}
+use lib.Dec.{eqb, ltb}
+use lib.ListN.{length, getD, take, replicate, length-map, length-replicate, List·getD-eq-default}
 use lib.Seq.{getD-take, length-take-le}
 use Rattle.number.proofs.Choice.{either}
 use Rattle.mask.specs.Has.{has}
 use Rattle.field.specs.Lists.{All, Rises}
+use Rattle.field.proofs.Lists.{replicate-at}
 use Rattle.model.specs.Case.{Case, base, Priced, Schedule, HasTime}
 use Rattle.model.specs.Assignment.{Valid}
 use Rattle.model.specs.Count.{any, sum, count, bit}
@@ -25,7 +26,7 @@ use Rattle.model.proofs.Plan.{no-blocks-plan}
 use Rattle.model.proofs.Sum.{any-ext}
 use Rattle.settings.specs.declared.Row.{Row}
 use Rattle.settings.specs.declared.Table.{Table}
-use Rattle.settings.specs.Row.{disk, inRange}
+use Rattle.settings.specs.Row.{disk}
 use Rattle.settings.specs.Table.{disksOf, costs, loads, delays, Filled}
 use Rattle.settings.proofs.Accepted.{filled-length, filled-good}
 use Rattle.settings.proofs.Ranges.{InRange as RowInRange, in-range}
@@ -35,11 +36,11 @@ use Rattle.field.specs.declared.Written.{Written}
 use Rattle.field.specs.Send.{Sent}
 use Rattle.plan.specs.Draft.{planDraft}
 use Rattle.engine.specs.declared.Answer.{Answer}
-use Rattle.engine.specs.Planned.{Planned, Rising}
+use Rattle.engine.specs.Planned.{Planned}
 use Rattle.engine.specs.Planned.{listed as listedFirst}
 use Rattle.engine.specs.Spelled.{spelled, Ready}
 use Rattle.unit.specs.Request.{startOf, caseOf, listed, PlanFor, Plannable, Sheeted}
-use Rattle.unit.proofs.Rows.{take-map, start-small}
+use Rattle.unit.proofs.Rows.{getD-column, take-map, start-small}
 
 -- ---- the case
 
@@ -77,14 +78,9 @@ module _ (t : Table) (w : Filled t) where
       ∙ ap {B = Case} (λ (f : ℕ → ℕ). record { disks = t .disks; blocks = length copies; start = f; cost = λ d. getD (costs t) d 0; copy = λ b d. has (getD copies b 0) d }) (fun-ext (sum-columns (disksOf t)))
 
   -- a row of the table, by its column
-  row-at : (f : Row → ℕ) (rows : List Row) (d : ℕ) → d < length rows → getD (map f rows) d 0 ≡ f (getD rows d (disk 0 0 0))
-  row-at f [] d l = absurd (omega arith)
-  row-at f (r ∷ rows) zero l = refl
-  row-at f (r ∷ rows) (suc d) l = row-at f rows d (omega arith)
-
   column-at : (f : Row → ℕ) (d : ℕ) → d < t .disks → getD (map f (disksOf t)) d 0 ≡ f (getD (t .rows) d (disk 0 0 0))
   unfolding disksOf
-  column-at f d l = row-at f (disksOf t) d (omega (arith, count-disks)) ∙ ap f (getD-take (t .disks) (t .rows) d (disk 0 0 0) l)
+  column-at f d l = getD-column f (disksOf t) d (omega (arith, count-disks)) ∙ ap f (getD-take (t .disks) (t .rows) d (disk 0 0 0) l)
 
   in-row : (d : ℕ) → d < t .disks → RowInRange (getD (t .rows) d (disk 0 0 0))
   in-row d l = in-range _ (filled-good w d l)
@@ -152,11 +148,6 @@ all-by high (x ∷ xs) h = (h 0 (omega arith), all-by high xs λ i l. h (suc i) 
 
 -- ---- the plan
 
-zeros : (n i : ℕ) → _≡_ {A = ℕ} (getD (replicate n 0) i 0) 0
-zeros zero i = refl
-zeros (suc n) zero = refl
-zeros (suc n) (suc i) = zeros n i
-
 -- a set with members is a list with numbers
 none-listed : (q : ℕ) → size q (listed []) ≡ 0
 unfolding size count sum bit listed
@@ -202,7 +193,7 @@ module _ (t : Table) (copies disks short : List ℕ) (r : Answer) (p : Plannable
       (λ s. sym (getD-take (length copies) disks b 0 (ltb-true _ _ s)))
       (λ f.
       let l : length copies ≤ b = ltb-false _ _ f in
-      h .disks-rest b l ∙ zeros 1024 b ∙ sym (List·getD-eq-default (take (length copies) disks) 0 {n = b} (omega (arith, count-blocks))))
+      h .disks-rest b l ∙ replicate-at 0 1024 b ∙ sym (List·getD-eq-default (take (length copies) disks) 0 {n = b} (omega (arith, count-blocks))))
 
   optimal : Optimal (caseOf t copies) (r .time) (λ b. getD (take (length copies) disks) b 0) (listed (take (r .size) short))
   optimal =

@@ -4,5 +4,6 @@ pub mod Rows
 pub mod Plans
 pub mod Found
 pub mod Asked
+pub mod Within
 pub mod Clause
 pub mod Unique

@@ -2,7 +2,7 @@
 use mathlib.Core.Path.{_≡_, refl, sym, ap, _∙_, subst}
 use mathlib.Core.Bool.{Bool, true, false, _||_}
 use mathlib.Core.List.{List, [], _∷_}
-use Prim.Native.Nat.{ℕ, zero, suc, _+_, _-_, _≤_, _<_}
+use Prim.Native.Nat.{ℕ, _+_, _-_, _≤_, _<_}
 use native.Mathlib.Omega.{arith}
 use borrow.Author.Tests.{eq-eqb, ne-eqb, eqb-true, eqb-false, leb-true, leb-false, ltb-true, ltb-false}
 use lib.Dec.{eqb, leb, ltb}
@@ -10,13 +10,12 @@ use lib.ListN.{length, getD}
 use lib.Seq.{ext-getD}
 use Rattle.number.proofs.Choice.{either}
 use Rattle.field.specs.Lists.{Rises}
-use Rattle.model.specs.Case.{Case, base}
+use Rattle.model.specs.Case.{base}
 use Rattle.model.specs.Order.{Agree}
-use Rattle.model.specs.Plan.{Plan as Optimal}
+use Rattle.model.proofs.Bool.{differ}
 use Rattle.model.proofs.Plan.{plan-unique}
 use Rattle.settings.specs.declared.Table.{Table}
 use Rattle.plan.specs.Plan.{Plan}
-use Rattle.plan.specs.Range.{InRange}
 use Rattle.unit.specs.Request.{caseOf, listed, PlanFor}
 
 -- ---- a rising list is known by its members
@@ -40,9 +39,6 @@ listed-other : (x : ℕ) (xs : List ℕ) (b : ℕ) → (x ≡ b → ⊥) → lis
 unfolding listed
 listed-other x xs b h = ap (λ (t : Bool). t || listed xs b) (ne-eqb x b h)
 
-clash : {X : Type 0} (t : Bool) → t ≡ true → t ≡ false → X
-clash t p q = absurd (let z : _≡_ {A = ℕ} 0 1 = cc in omega arith)
-
 -- a list whose first number is its floor
 from-first : (floor high x : ℕ) (xs : List ℕ) → Rises floor high (x ∷ xs) → Rises x high (x ∷ xs)
 unfolding Rises
@@ -55,7 +51,7 @@ first-high floor high x xs r = (r .1, r .2)
 -- a first number that the other list has not
 not-sooner : (floor high x y : ℕ) (xs ys : List ℕ) → Rises floor high (x ∷ xs) → Rises floor high (y ∷ ys) → ((b : ℕ) → b ≤ high → listed (x ∷ xs) b ≡ listed (y ∷ ys) b) → x < y → ⊥
 not-sooner floor high x y xs ys r q h l =
-    clash (listed (x ∷ xs) x) (listed-first x xs) (h x (first-high floor high x xs r .0) ∙ listed-below y high (y ∷ ys) (from-first floor high y ys q) x l)
+    absurd (differ (listed-first x xs) (h x (first-high floor high x xs r .0) ∙ listed-below y high (y ∷ ys) (from-first floor high y ys q) x l))
 
 same-first : (floor high x y : ℕ) (xs ys : List ℕ) → Rises floor high (x ∷ xs) → Rises floor high (y ∷ ys) → ((b : ℕ) → b ≤ high → listed (x ∷ xs) b ≡ listed (y ∷ ys) b) → x ≡ y
 same-first floor high x y xs ys r q h =
@@ -75,8 +71,8 @@ same-rest high x xs ys r q h b k =
 -- two rising lists with the same members are the same
 pub rising-same : (floor high : ℕ) (xs ys : List ℕ) → Rises floor high xs → Rises floor high ys → ((b : ℕ) → b ≤ high → listed xs b ≡ listed ys b) → xs ≡ ys
 rising-same floor high [] [] r q h = refl
-rising-same floor high [] (y ∷ ys) r q h = clash (listed (y ∷ ys) y) (listed-first y ys) (sym (h y (first-high floor high y ys q .0)) ∙ listed-empty y)
-rising-same floor high (x ∷ xs) [] r q h = clash (listed (x ∷ xs) x) (listed-first x xs) (h x (first-high floor high x xs r .0) ∙ listed-empty x)
+rising-same floor high [] (y ∷ ys) r q h = absurd (differ (listed-first y ys) (sym (h y (first-high floor high y ys q .0)) ∙ listed-empty y))
+rising-same floor high (x ∷ xs) [] r q h = absurd (differ (listed-first x xs) (h x (first-high floor high x xs r .0) ∙ listed-empty x))
 rising-same floor high (x ∷ xs) (y ∷ ys) r q h =
     let e : y ≡ x = sym (same-first floor high x y xs ys r q h) in
     let g : Rises (x + 1) high ys = subst (λ (k : ℕ). Rises (k + 1) high ys) e (first-high floor high y ys q .1) in

@@ -10,9 +10,9 @@ use lib.Seq.{getD-set-same, getD-set-other, ext-getD}
 use Rattle.mask.proofs.Has.{lt-or-le}
 use Rattle.settings.specs.declared.Row.{Row}
 use Rattle.settings.specs.declared.Table.{Table}
-use Rattle.settings.specs.Row.{disk, inRange}
+use Rattle.settings.specs.Row.{disk}
 use Rattle.settings.specs.Table.{Filled}
-use Rattle.settings.proofs.Accepted.{filled-length, filled-good, filled-zero}
+use Rattle.settings.proofs.Accepted.{filled-good, filled-zero}
 use Rattle.settings.proofs.Ranges.{InRange, in-range}
 use Rattle.unit.specs.Request.{startOf}
 
@@ -53,7 +53,7 @@ columns-step {rows} {costs} {starts} {i} r l e w = record {
 }
 
 -- a column of a list of rows
-getD-column : (f : Row → ℕ) (rows : List Row) (k : ℕ) → k < length rows → getD (map f rows) k 0 ≡ f (getD rows k (disk 0 0 0))
+pub getD-column : (f : Row → ℕ) (rows : List Row) (k : ℕ) → k < length rows → getD (map f rows) k 0 ≡ f (getD rows k (disk 0 0 0))
 getD-column f [] k l = absurd (omega arith)
 getD-column f (r ∷ rows) zero l = refl
 getD-column f (r ∷ rows) (suc k) l = getD-column f rows k (omega arith)

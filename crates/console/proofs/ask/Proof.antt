@@ -3,7 +3,8 @@ use borrow.Author.Needs.{needs}
 use native.Mathlib.Omega.{arith}
 use lib.Seq.{length-take-le}
 use mathlib.Core.Path.{sym}
-use Rattle.console.proofs.Benching.{answered-within, asks-shown, asks-refused}
+use Rattle.unit.proofs.Within.{answered-within}
+use Rattle.console.proofs.Benching.{asks-shown, asks-refused}
 use Rattle.console.proofs.ask.Statement.{statement}
 use Rattle.console.proofs.ask.Tie as tie
 

@@ -9,7 +9,7 @@ returns : tie.Need-returns
 returns c = many-disks _ _ _ _ (c .if1 .taken)
 
 returns-2 : tie.Need-returns-2
-returns-2 c = many-blocks _ _ _ _ (c .before .if1 .left) (c .if2 .taken)
+returns-2 c = many-blocks _ _ _ _ (c .if2 .taken)
 
 cast-put-head : tie.Need-cast-put-head
 cast-put-head c = search needs

@@ -8,7 +8,7 @@ use lib.ListN.{length, take, getD, length-take}
 use Rattle.number.specs.Encode.{encode}
 use Rattle.number.proofs.Encode.{width-bounds}
 use Rattle.field.specs.Put.{spellAll}
-use Rattle.plan.proofs.Spell.{width-none, width-next, width-all, spell-bound}
+use Rattle.plan.proofs.Spell.{width-none, width-next, width-all, numbers-bound}
 use Rattle.plan.proofs.disks_width.Statement.{statement}
 use Rattle.plan.proofs.disks_width.Tie as tie
 
@@ -31,7 +31,7 @@ width-requires : tie.Need-width-requires Inv-loop μ-loop
 width-requires c κs = search needs
 
 add-n : tie.Need-add-n Inv-loop μ-loop
-add-n c = omega (arith, spell-bound (take (c .before .before .before .loop .i) (c .before .before .before .before .before .args .xs .now)), length-take (c .before .before .before .loop .i) (c .before .before .before .before .before .args .xs .now), width-bounds (getD (c .before .before .before .before .before .args .xs .now) (c .before .before .before .loop .i) 0), c .width .ensures)
+add-n c = omega (arith, numbers-bound (take (c .before .before .before .loop .i) (c .before .before .before .before .before .args .xs .now)), length-take (c .before .before .before .loop .i) (c .before .before .before .before .before .args .xs .now), width-bounds (getD (c .before .before .before .before .before .args .xs .now) (c .before .before .before .loop .i) 0), c .width .ensures)
 
 add-i : tie.Need-add-i Inv-loop μ-loop
 add-i c = search needs

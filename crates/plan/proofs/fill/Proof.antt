@@ -15,7 +15,7 @@ cast-if2 : tie.Need-cast-if2
 cast-if2 c = search needs
 
 returns-2 : tie.Need-returns-2
-returns-2 c = λ p e w. few-members p e _ _ w (omega arith) (omega arith)
+returns-2 c = λ p e w. few-members p e _ _ w (omega arith)
 
 read-disks-requires : tie.Need-read-disks-requires
 read-disks-requires c κs = search needs

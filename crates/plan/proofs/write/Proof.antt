@@ -10,7 +10,7 @@ returns : tie.Need-returns
 returns c = many-disks _ _ _ _ (c .if1 .taken)
 
 returns-2 : tie.Need-returns-2
-returns-2 c = many-members _ _ _ _ (c .before .if1 .left) (c .if2 .taken)
+returns-2 c = many-members _ _ _ _ (c .if2 .taken)
 
 sheet-width-requires : tie.Need-sheet-width-requires
 sheet-width-requires c κs = search needs

@@ -2,7 +2,8 @@
 use borrow.Author.Needs.{needs}
 use native.Mathlib.Omega.{arith}
 use Rattle.field.proofs.Puts.{written-length}
-use Rattle.request.proofs.Writing.{spell-room, blocks-more, blocks-all}
+use Rattle.field.proofs.Puts.{spell-room}
+use Rattle.request.proofs.Writing.{blocks-more, blocks-all}
 use Rattle.request.specs.Draft.{blockBytes}
 use Rattle.field.proofs.Puts.{written-none}
 use Rattle.field.specs.Put.{spellAll}

@@ -1,7 +1,8 @@
 -- `request`: the plan sheet stands in the lent part of the buffer, or is longer than it.
 use borrow.Author.Needs.{needs}
 use native.Mathlib.Omega.{arith}
-use Rattle.service.proofs.Serving.{part-within, answered-within, request-sent, request-kept}
+use Rattle.unit.proofs.Within.{answered-within}
+use Rattle.service.proofs.Serving.{part-within, request-sent, request-kept}
 use lib.Seq.{length-take-le}
 use mathlib.Core.Path.{sym}
 use Rattle.service.proofs.request.Statement.{statement}
