@@ -5,7 +5,7 @@
 # make compare   20,000 inputs to each program and to the second program
 # make edits     every wrong program and wrong promise on file, those that `make test` leaves out among them
 # make race      the benchmark against LEMON; `race/run docs` also puts its tables into docs/SPEED.md
-.PHONY: plan test halves programs library tools hire second second-tests stored-runs host-tests compared compare edits race
+.PHONY: plan test programs library tools hire second second-tests stored-runs host-tests compare edits race
 
 SECOND := $(CURDIR)/target/second/release/second
 LIBRARY := $(CURDIR)/target/staticlib/libdesk.a
@@ -19,24 +19,20 @@ plan:
 	rt check bench >target/plan.log 2>&1 || { cat target/plan.log; exit 1; }
 	./target/bin/bench <crates/bench/stdin
 
-# The engine and the sheets, proved side by side.
-halves:
-	tests/halves.sh
-
 # The proved programs.
-programs: halves
+programs:
 	rt check bench shelf
 
-# The library for C, built beside the programs.
-library: halves
-	cd target/side && rt staticlib desk
-	mkdir -p target/staticlib
-	cp target/side/target/staticlib/libdesk.a $(LIBRARY)
+# The library for C; the sheets first, as several at a time.
+library:
+	rt check settings request plan
+	rt staticlib desk
 
-tools: library programs
+tools: library
 	$(MAKE) -C hosts LIB=$(LIBRARY)
 
 hire: tools
+	$(MAKE) programs
 	examples/hire.sh
 
 # The independent second program.
@@ -47,18 +43,15 @@ second-tests: second
 	cd second && CARGO_TARGET_DIR=../target/second cargo test --offline --release --quiet
 	$(SECOND) vectors second/vectors/sheets.txt
 
-# The stored runs come from the second program, and the shelf's from words.
+# The programs' stored runs are the second program's answers; the shelf's is made of words and 4,000 generated calls. rt ci
+# then holds the proved programs to them.
 stored-runs: second
 	$(SECOND) stream crates/shelf/run.txt | cmp - crates/shelf/stdin
 	$(SECOND) shelf <crates/shelf/stdin | cmp - crates/shelf/stdout
 	$(SECOND) bench <crates/bench/stdin | cmp - crates/bench/stdout
 
-compared: programs second
-	$(SECOND) compare bench 4000 1 ./target/bin/bench
-	$(SECOND) compare shelf 20000 1 ./target/bin/shelf
-
-host-tests: compared library second-tests stored-runs
-	LIB=$(LIBRARY) SECOND=$(SECOND) sh tests/hosts/run.sh
+host-tests: library second-tests stored-runs
+	LIB=$(LIBRARY) SECOND=$(SECOND) SHELF='$(SECOND) shelf' sh tests/hosts/run.sh
 
 compare: programs second
 	$(SECOND) compare bench $(COUNT) 1 ./target/bin/bench

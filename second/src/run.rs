@@ -5,52 +5,96 @@
 //!     settings 0107ac02 01 (040001)*1 -> set
 //!     request 15 0207ac02 00 -> plan 0307ac02000000
 //!     return 300 -> returned
+//!     calls 40 1 300
 //!     bytes 05 -> stopped 3
 //!
 //! A sheet is hex, with spaces between its parts; (HEX)*N stands for N times HEX, and A..B for the numbers from A to B in
-//! sheet form. A plan may be written so as well.
+//! sheet form. A plan may be written so as well. `calls COUNT SEED TENANCY` are so many generated calls, whole and damaged, to the
+//! unit while it is rented to that tenancy and not set.
 
 use crate::hex;
+use crate::inputs;
 use crate::number;
 use crate::shelf;
 
 /// The stream of bytes of a run, or the first call that this program answers with another line.
 pub fn stream(text: &str) -> Result<Vec<u8>, String> {
-    let mut stream = Vec::new();
-    let mut lines = Vec::new();
+    let mut run = Run::default();
     for line in text
         .lines()
         .map(str::trim)
         .filter(|line| !line.is_empty() && !line.starts_with('#'))
     {
-        let (call, answer) = line.split_once(" -> ").unwrap_or((line, ""));
-        stream.extend(bytes_of(call).ok_or_else(|| format!("not a call: {line}"))?);
-        if !answer.is_empty() {
-            lines.push((
-                line,
-                answer_of(answer).ok_or_else(|| format!("no answer: {line}"))?,
-            ));
-        }
+        run.add(line)
+            .ok_or_else(|| format!("not a call and its answer: {line}"))?;
     }
-    let printed = String::from_utf8_lossy(&shelf::lines(&stream)).into_owned();
-    let found: Vec<&str> = printed.lines().collect();
-    for (at, (line, answer)) in lines.iter().enumerate() {
-        let other = found.get(at).copied().unwrap_or("nothing");
-        if other != answer {
-            return Err(format!("{line}\nfound: {other}"));
-        }
-    }
-    if found.len() != lines.len() {
-        return Err(format!("{} answers for {} calls", found.len(), lines.len()));
-    }
-    Ok(stream)
+    run.hold()?;
+    Ok(run.stream)
 }
 
-fn bytes_of(call: &str) -> Option<Vec<u8>> {
-    let (word, rest) = call.split_once(' ')?;
+/// The bytes so far, the unit's number, and the line that is told for each call; none for a call that is made up.
+#[derive(Default)]
+struct Run {
+    stream: Vec<u8>,
+    number: u32,
+    told: Vec<Option<(String, String)>>,
+}
+
+impl Run {
+    fn add(&mut self, line: &str) -> Option<()> {
+        let (call, answer) = line.split_once(" -> ").unwrap_or((line, ""));
+        let (word, rest) = call.split_once(' ')?;
+        match word {
+            "unit" => {
+                self.number = rest.parse().ok()?;
+                self.stream.extend(number::shortest(self.number));
+            }
+            "calls" => {
+                let words: Option<Vec<u32>> =
+                    rest.split(' ').map(|word| word.parse().ok()).collect();
+                let &[count, seed, tenancy] = &words?[..] else {
+                    return None;
+                };
+                for call in inputs::shelf::calls(seed.into(), count, self.number, tenancy) {
+                    self.stream.extend(call);
+                    self.told.push(None);
+                }
+            }
+            _ => {
+                self.stream.extend(bytes_of(word, rest)?);
+                self.told.push(Some((line.to_string(), answer_of(answer)?)));
+            }
+        }
+        Some(())
+    }
+
+    /// This program gives the lines that are told.
+    fn hold(&self) -> Result<(), String> {
+        let printed = String::from_utf8_lossy(&shelf::lines(&self.stream)).into_owned();
+        let found: Vec<&str> = printed.lines().collect();
+        for (at, told) in self.told.iter().enumerate() {
+            let other = found.get(at).copied().unwrap_or("nothing");
+            match told {
+                Some((line, answer)) if other != answer => {
+                    return Err(format!("{line}\nfound: {other}"))
+                }
+                _ => {}
+            }
+        }
+        if found.len() != self.told.len() {
+            return Err(format!(
+                "{} lines for {} calls",
+                found.len(),
+                self.told.len()
+            ));
+        }
+        Ok(())
+    }
+}
+
+fn bytes_of(word: &str, rest: &str) -> Option<Vec<u8>> {
     let mut bytes = Vec::new();
     match word {
-        "unit" => bytes.extend(number::shortest(rest.parse().ok()?)),
         "rent" => bytes.extend(numbers(&[1, rest.parse().ok()?])),
         "return" => bytes.extend(numbers(&[4, rest.parse().ok()?])),
         "settings" => {
@@ -77,8 +121,11 @@ fn numbers(values: &[u32]) -> Vec<u8> {
         .collect()
 }
 
-/// `plan` and a sheet's parts, or the line as it is.
+/// `plan` and a sheet's parts, or the line as it is; a call has an answer.
 fn answer_of(answer: &str) -> Option<String> {
+    if answer.is_empty() {
+        return None;
+    }
     match answer.strip_prefix("plan ") {
         Some(sheet) => Some(format!("plan {}", hex::plain(&parts(sheet)?))),
         None => Some(answer.to_string()),

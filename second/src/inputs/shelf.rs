@@ -45,6 +45,22 @@ pub fn stream(seed: u64, index: u64) -> Stream {
     pieces
 }
 
+/// So many calls to a unit that is rented and not set, none of which stops the stream.
+pub fn calls(seed: u64, count: u32, number: u32, tenancy: u32) -> Vec<Vec<u8>> {
+    let mut random = Random::of(seed, 0);
+    let mut unit = Unit::new(number);
+    let _ = unit.rent(tenancy);
+    let mut hire = Hire {
+        number,
+        unit,
+        last: tenancy,
+        case: whole::small(&mut random),
+        settings_sent: Vec::new(),
+        requests_sent: Vec::new(),
+    };
+    (0..count).map(|_| hire.call(&mut random)).collect()
+}
+
 impl Hire {
     /// A call that mostly fits the state the unit is in.
     fn call(&mut self, random: &mut Random) -> Vec<u8> {
