@@ -11,9 +11,6 @@ SECOND := $(CURDIR)/target/second/release/second
 LIBRARY := $(CURDIR)/target/staticlib/libdesk.a
 COUNT ?= 20000
 
-# Crates and edits that rt tries at a time: more than two processors, as a level or a batch waits for its slowest.
-export RT_JOBS ?= 5
-
 plan:
 	@mkdir -p target
 	rt check bench >target/plan.log 2>&1 || { cat target/plan.log; exit 1; }
