@@ -1,0 +1,39 @@
+-- The limits of document 01.
+--     disksMost, blocksMost, copiesMost        disks of a unit, blocks of a request, copies of a block
+--     costMost, loadMost, delayMost            of one disk
+--     startMost, timeMost                      when a disk starts; the time of a plan
+--     settingsMost, requestMost, planMost      the longest sheets, in bytes
+use Prim.Native.Nat.{ℕ}
+
+abbrev pub disksMost : ℕ
+disksMost = 64
+
+abbrev pub blocksMost : ℕ
+blocksMost = 1024
+
+abbrev pub copiesMost : ℕ
+copiesMost = 8
+
+abbrev pub costMost : ℕ
+costMost = 1000000
+
+abbrev pub loadMost : ℕ
+loadMost = 100000000
+
+abbrev pub delayMost : ℕ
+delayMost = 1000000
+
+abbrev pub startMost : ℕ
+startMost = 101000000
+
+abbrev pub timeMost : ℕ
+timeMost = 1125000000
+
+abbrev pub settingsMost : ℕ
+settingsMost = 652
+
+abbrev pub requestMost : ℕ
+requestMost = 9229
+
+abbrev pub planMost : ℕ
+planMost = 2964
