@@ -61,7 +61,7 @@ fn close(u: Unit, input: &[u8], at: usize, line: &mut [u8; 24576]) -> usize
             if to == input.len() {
                 ask(u, &input[from..to], line)
             } else {
-                refuse(Refusal::Extra, line)
+                refuse(Refusal::BytesFollow, line)
             }
         }
         Span::Refused(e) => refuse(e, line),

@@ -19,7 +19,7 @@ use Rattle.model.specs.Case.{Case, Priced, Schedule, response, InTime, HasTime,
 use Rattle.model.specs.Shortfall.{size, Sub, NoShorter, Greatest, ShortSet}
 use Rattle.model.specs.Time.{LeastTime}
 use Rattle.model.specs.Order.{Agree, FirstOf}
-use Rattle.model.specs.Plan.{Plan}
+use Rattle.model.specs.Plan.{Optimal}
 use Rattle.model.proofs.Bool.{by-cases}
 use Rattle.model.proofs.Sum.{count-ext}
 use Rattle.model.proofs.Capacity.{response-within, within-response}
@@ -170,7 +170,7 @@ module _ (copies costs starts disks short : List ℕ) (r : Ready copies costs st
         let case : (ℕ → ℕ → Bool) → Case = λ c.
         record { disks = n; blocks = q; start = λ d. getD starts d 0; cost = λ d. getD costs d 0; copy = c } in
         record {
-          plan = subst (λ (c : ℕ → ℕ → Bool). Plan (case c) t (entry disks′) (listed short′ m)) same-copies
+          plan = subst (λ (c : ℕ → ℕ → Bool). Optimal (case c) t (entry disks′) (listed short′ m)) same-copies
               (record {
                 least = least-time n q masks costs starts caps at loads t table (copies-of w) k;
                 first = first-time n q masks costs starts caps at loads t table (copies-of w) k (entry disks′) (f .first);

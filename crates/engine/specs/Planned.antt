@@ -6,7 +6,7 @@ use mathlib.Core.List.{List}
 use lib.Dec.{eqb}
 use lib.ListN.{getD, length}
 use Rattle.model.specs.Count.{any}
-use Rattle.model.specs.Plan.{Plan}
+use Rattle.model.specs.Plan.{Optimal}
 use Rattle.engine.specs.Spelled.{spelled}
 use Rattle.engine.specs.declared.Answer.{Answer}
 
@@ -24,7 +24,7 @@ pub record Rising (q m : ℕ) (short short′ : List ℕ) : Type 0 where
 
 -- time, disks and short set are the plan; both buffers are as they were beyond what is written
 pub record Planned (copies costs starts disks short disks′ short′ : List ℕ) (r : Answer) : Type 0 where
-  pub plan : Plan (spelled copies costs starts) (r .time) (λ b. getD disks′ b 0) (listed short′ (r .size))
+  pub plan : Optimal (spelled copies costs starts) (r .time) (λ b. getD disks′ b 0) (listed short′ (r .size))
   pub set : Rising (length copies) (r .size) short short′
   pub disks-rest : (b : ℕ) → length copies ≤ b → getD disks′ b 0 ≡ getD disks b 0
   pub disks-long : length disks′ ≡ length disks

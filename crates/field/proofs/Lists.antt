@@ -1,9 +1,9 @@
--- Laws of `times` and `climb`: as the loops that run them, and both ways round.
+-- Laws of `times` and `ascending`: as the loops that run them, and both ways round.
 --     prefix                what was read, then the rest
 --     times-start, times-step, times-stop, times-done     a loop over i of n readings
---     climb-start, climb-step, climb-stop, climb-done     the same, each number above the one before it
---     reads-times, reads-climb      reading what was written
---     times-spelt, climb-spelt      the bytes of what was read
+--     ascending-start, ascending-step, ascending-stop, ascending-done     the same, each number above the one before it
+--     reads-times, reads-ascending      reading what was written
+--     times-spelt, ascending-spelt      the bytes of what was read
 --     replicate-at          a list of one value
 use mathlib.Core.Path.{_≡_, refl, sym, ap, _∙_, subst}
 use mathlib.Core.List.{List, [], _∷_, _++_, append-assoc, append-nil}
@@ -13,7 +13,7 @@ use lib.ListN.{length, getD, replicate}
 use Rattle.number.specs.Bytes.{Bytes}
 use Rattle.number.specs.Encode.{encode}
 use Rattle.field.specs.Sheet.{Out, got, refused, Parser, andThen, _>>=_, pure, times}
-use Rattle.field.specs.Field.{rising, climb}
+use Rattle.field.specs.Field.{rising, ascending}
 use Rattle.field.specs.Lists.{All, Rises}
 use Rattle.field.specs.Put.{spellAll}
 use Rattle.field.proofs.Sheet.{next, stops, Step, bind-got, pure-got}
@@ -73,32 +73,32 @@ module _ {A : Type 0} (p : Parser A) (s : List ℕ) where
       let k : n - i ≡ 0 = omega arith in
       ap (λ (m : ℕ). prefix xs (times m p s at)) k ∙ ap (λ z. got z at) (append-nil xs)
 
--- ---- climb, as a loop
+-- ---- ascending, as a loop
 
 module _ (high : ℕ) (s : List ℕ) where
-  climb-more : (k floor at : ℕ) {v e : ℕ} → rising floor high s at ≡ got v e → climb (suc k) floor high s at ≡ prefix (v ∷ []) (climb k (v + 1) high s e)
-  unfolding climb
-  climb-more k floor at {v} {e} h = next (rising floor high) _ s at h ∙ before-list v (climb k (v + 1) high) s e
+  ascending-more : (k floor at : ℕ) {v e : ℕ} → rising floor high s at ≡ got v e → ascending (suc k) floor high s at ≡ prefix (v ∷ []) (ascending k (v + 1) high s e)
+  unfolding ascending
+  ascending-more k floor at {v} {e} h = next (rising floor high) _ s at h ∙ before-list v (ascending k (v + 1) high) s e
 
-  pub climb-start : (n floor at : ℕ) → climb n floor high s at ≡ prefix [] (climb (n - 0) floor high s at)
-  climb-start n floor at = let e : n - 0 ≡ n = omega arith in rw e (prefix-none (climb n floor high s at))
+  pub ascending-start : (n floor at : ℕ) → ascending n floor high s at ≡ prefix [] (ascending (n - 0) floor high s at)
+  ascending-start n floor at = let e : n - 0 ≡ n = omega arith in rw e (prefix-none (ascending n floor high s at))
 
-  pub climb-step : (n i floor at : ℕ) (xs : List ℕ) {v e : ℕ} → i < n → rising floor high s at ≡ got v e → prefix xs (climb (n - i) floor high s at) ≡ prefix (xs ++ (v ∷ [])) (climb (n - (i + 1)) (v + 1) high s e)
-  climb-step n i floor at xs {v} {e} l h =
+  pub ascending-step : (n i floor at : ℕ) (xs : List ℕ) {v e : ℕ} → i < n → rising floor high s at ≡ got v e → prefix xs (ascending (n - i) floor high s at) ≡ prefix (xs ++ (v ∷ [])) (ascending (n - (i + 1)) (v + 1) high s e)
+  ascending-step n i floor at xs {v} {e} l h =
       let k : n - i ≡ suc (n - (i + 1)) = omega arith in
-      ap (λ (m : ℕ). prefix xs (climb m floor high s at)) k ∙ ap (prefix xs) (climb-more (n - (i + 1)) floor at h) ∙ prefix-one xs v (climb (n - (i + 1)) (v + 1) high s e)
+      ap (λ (m : ℕ). prefix xs (ascending m floor high s at)) k ∙ ap (prefix xs) (ascending-more (n - (i + 1)) floor at h) ∙ prefix-one xs v (ascending (n - (i + 1)) (v + 1) high s e)
 
-  pub climb-stop : (n i floor at : ℕ) (xs : List ℕ) {m : ℕ} → i < n → rising floor high s at ≡ refused m → prefix xs (climb (n - i) floor high s at) ≡ refused m
-  unfolding climb prefix
-  climb-stop n i floor at xs l h =
+  pub ascending-stop : (n i floor at : ℕ) (xs : List ℕ) {m : ℕ} → i < n → rising floor high s at ≡ refused m → prefix xs (ascending (n - i) floor high s at) ≡ refused m
+  unfolding ascending prefix
+  ascending-stop n i floor at xs l h =
       let k : n - i ≡ suc (n - (i + 1)) = omega arith in
-      ap (λ (m : ℕ). prefix xs (climb m floor high s at)) k ∙ ap (prefix xs) (stops (rising floor high) _ s at h)
+      ap (λ (m : ℕ). prefix xs (ascending m floor high s at)) k ∙ ap (prefix xs) (stops (rising floor high) _ s at h)
 
-  pub climb-done : (n i floor at : ℕ) (xs : List ℕ) → n ≤ i → prefix xs (climb (n - i) floor high s at) ≡ got xs at
-  unfolding climb prefix pure
-  climb-done n i floor at xs l =
+  pub ascending-done : (n i floor at : ℕ) (xs : List ℕ) → n ≤ i → prefix xs (ascending (n - i) floor high s at) ≡ got xs at
+  unfolding ascending prefix pure
+  ascending-done n i floor at xs l =
       let k : n - i ≡ 0 = omega arith in
-      ap (λ (m : ℕ). prefix xs (climb m floor high s at)) k ∙ ap (λ z. got z at) (append-nil xs)
+      ap (λ (m : ℕ). prefix xs (ascending m floor high s at)) k ∙ ap (λ z. got z at) (append-nil xs)
 
 -- ---- reading what was written
 
@@ -107,12 +107,12 @@ unfolding times spellAll All
 reads-times p spell P one [] h = reads-pure []
 reads-times p spell P one (a ∷ vs) h = reads-bind _ (one a (h .0)) (reads-checked _ (reads-times p spell P one vs (h .1)) (reads-pure (a ∷ vs)))
 
-pub reads-climb : (high : ℕ) → high < 2 ^ 32 → (floor : ℕ) (vs : List ℕ) → Rises floor high vs → Reads (climb (length vs) floor high) (spellAll encode vs) vs
-unfolding climb spellAll Rises
-reads-climb high h floor [] r = reads-pure []
-reads-climb high h floor (v ∷ vs) r =
+pub reads-ascending : (high : ℕ) → high < 2 ^ 32 → (floor : ℕ) (vs : List ℕ) → Rises floor high vs → Reads (ascending (length vs) floor high) (spellAll encode vs) vs
+unfolding ascending spellAll Rises
+reads-ascending high h floor [] r = reads-pure []
+reads-ascending high h floor (v ∷ vs) r =
     reads-bind _ (reads-rising floor high v (r .0) (r .1) (omega (arith, r .1)))
-    (reads-checked _ (reads-climb high h (v + 1) vs (r .2)) (reads-pure (v ∷ vs)))
+    (reads-checked _ (reads-ascending high h (v + 1) vs (r .2)) (reads-pure (v ∷ vs)))
 
 -- ---- the bytes of what was read
 
@@ -133,17 +133,17 @@ times-spelt {A} p spell P s one (suc n) at vs e l h =
     moved (λ z k. Spelt s at k (spellAll spell z) × (length z ≡ suc n) × All P z) (q .0) (q .1)
     (spelt-join (f .0) (g .0), ap suc (g .1), (f .1, g .2))
 
-pub climb-spelt : (high : ℕ) (s : List ℕ) → Bytes s → (n floor at : ℕ) (vs : List ℕ) (e : ℕ) → at ≤ length s → climb n floor high s at ≡ got vs e → Spelt s at e (spellAll encode vs) × (length vs ≡ n) × Rises floor high vs
-unfolding climb spellAll Rises
-climb-spelt high s b zero floor at vs e l h =
+pub ascending-spelt : (high : ℕ) (s : List ℕ) → Bytes s → (n floor at : ℕ) (vs : List ℕ) (e : ℕ) → at ≤ length s → ascending n floor high s at ≡ got vs e → Spelt s at e (spellAll encode vs) × (length vs ≡ n) × Rises floor high vs
+unfolding ascending spellAll Rises
+ascending-spelt high s b zero floor at vs e l h =
     let q : ([] ≡ vs) × (at ≡ e) = pure-got [] vs s at e h in
     rw (sym (q .0), sym (q .1)) (spelt-none s at l, refl, tt)
-climb-spelt high s b (suc n) floor at vs e l h =
-    let w : Step (rising floor high s at) (λ v m. (climb n (v + 1) high >>= λ rest. pure (v ∷ rest)) s m) vs e = bind-got (rising floor high) s at vs e (λ v. climb n (v + 1) high >>= λ rest. pure (v ∷ rest)) h in
-    let u : Step (climb n (w .found + 1) high s (w .mid)) (λ rest m. pure (w .found ∷ rest) s m) vs e = bind-got (climb n (w .found + 1) high) s (w .mid) vs e (λ rest. pure (w .found ∷ rest)) (w .last) in
+ascending-spelt high s b (suc n) floor at vs e l h =
+    let w : Step (rising floor high s at) (λ v m. (ascending n (v + 1) high >>= λ rest. pure (v ∷ rest)) s m) vs e = bind-got (rising floor high) s at vs e (λ v. ascending n (v + 1) high >>= λ rest. pure (v ∷ rest)) h in
+    let u : Step (ascending n (w .found + 1) high s (w .mid)) (λ rest m. pure (w .found ∷ rest) s m) vs e = bind-got (ascending n (w .found + 1) high) s (w .mid) vs e (λ rest. pure (w .found ∷ rest)) (w .last) in
     let q : (w .found ∷ u .found ≡ vs) × (u .mid ≡ e) = pure-got (w .found ∷ u .found) vs s (u .mid) e (u .last) in
     let f : Spelt s at (w .mid) (encode (w .found)) × (w .found ≤ high) × (floor ≤ w .found) = rising-spelt s at (w .found) (w .mid) b floor high (w .first) in
-    let g : Spelt s (w .mid) (u .mid) (spellAll encode (u .found)) × (length (u .found) ≡ n) × Rises (w .found + 1) high (u .found) = climb-spelt high s b n (w .found + 1) (w .mid) (u .found) (u .mid) (f .0 .within) (u .first) in
+    let g : Spelt s (w .mid) (u .mid) (spellAll encode (u .found)) × (length (u .found) ≡ n) × Rises (w .found + 1) high (u .found) = ascending-spelt high s b n (w .found + 1) (w .mid) (u .found) (u .mid) (f .0 .within) (u .first) in
     moved (λ z k. Spelt s at k (spellAll encode z) × (length z ≡ suc n) × Rises floor high z) (q .0) (q .1)
     (spelt-join (f .0) (g .0), ap suc (g .1), (f .2, f .1, g .2))
 

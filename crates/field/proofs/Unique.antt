@@ -7,7 +7,7 @@ use Rattle.number.specs.Choice.{pick}
 use Rattle.field.specs.declared.Field.{Field}
 use Rattle.field.specs.declared.Field.the-variants.{Got, Refused}
 use Rattle.field.specs.declared.Refusal.{Refusal}
-use Rattle.field.specs.declared.Refusal.the-variants.{Ends, Malformed, Kind, Unit, Tenancy, Range, NoCopies, NotRising, Extra, NoSettings, NoRoom, Rented, NotAbove, NotTenant}
+use Rattle.field.specs.declared.Refusal.the-variants.{SheetEnds, BadNumber, WrongKind, WrongUnit, WrongTenancy, OutOfRange, NoCopy, NotRising, BytesFollow, NoSettings, NoRoom, Rented, NotAbove, NotTheTenant}
 use Rattle.field.specs.Put.{Put, Written}
 use Rattle.field.specs.Refusal.{numberOf}
 use Rattle.field.specs.Sheet.{Out}
@@ -16,37 +16,37 @@ use Rattle.field.specs.Told.{told}
 -- the refusal of a number of the paper
 named : ℕ → Refusal
 named n =
-    pick (eqb n 1) Ends
-    (pick (eqb n 2) Malformed
-    (pick (eqb n 3) Kind
-    (pick (eqb n 4) Unit
-    (pick (eqb n 5) Tenancy
-    (pick (eqb n 6) Range
-    (pick (eqb n 7) NoCopies
+    pick (eqb n 1) SheetEnds
+    (pick (eqb n 2) BadNumber
+    (pick (eqb n 3) WrongKind
+    (pick (eqb n 4) WrongUnit
+    (pick (eqb n 5) WrongTenancy
+    (pick (eqb n 6) OutOfRange
+    (pick (eqb n 7) NoCopy
     (pick (eqb n 8) NotRising
-    (pick (eqb n 9) Extra
+    (pick (eqb n 9) BytesFollow
     (pick (eqb n 10) NoSettings
     (pick (eqb n 11) NoRoom
     (pick (eqb n 12) Rented
     (pick (eqb n 13) NotAbove
-    NotTenant))))))))))))
+    NotTheTenant))))))))))))
 
 named-number : (r : Refusal) → named (numberOf r) ≡ r
 unfolding named numberOf pick
-named-number Ends = refl
-named-number Malformed = refl
-named-number Kind = refl
-named-number Unit = refl
-named-number Tenancy = refl
-named-number Range = refl
-named-number NoCopies = refl
+named-number SheetEnds = refl
+named-number BadNumber = refl
+named-number WrongKind = refl
+named-number WrongUnit = refl
+named-number WrongTenancy = refl
+named-number OutOfRange = refl
+named-number NoCopy = refl
 named-number NotRising = refl
-named-number Extra = refl
+named-number BytesFollow = refl
 named-number NoSettings = refl
 named-number NoRoom = refl
 named-number Rented = refl
 named-number NotAbove = refl
-named-number NotTenant = refl
+named-number NotTheTenant = refl
 
 -- no two refusals have one number
 pub number-injective : (a b : Refusal) → numberOf a ≡ numberOf b → a ≡ b

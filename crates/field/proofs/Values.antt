@@ -1,7 +1,7 @@
 -- What is known of values that were read, whatever the bytes.
 --     one-test, two-tests       a number that passed its checks
 --     tenancy-within, inside-range, rising-within     the checks of each reader of a field
---     climb-rises, times-all    lists of numbers that rise, and lists of values with a property
+--     ascending-rises, times-all    lists of numbers that rise, and lists of values with a property
 --     all-at                    one value of such a list
 use mathlib.Core.Path.{_≡_, refl, sym, ap, _∙_, subst}
 use mathlib.Core.Bool.{Bool, true}
@@ -12,7 +12,7 @@ use borrow.Author.Tests.{eqb-true, leb-true, ltb-true}
 use lib.Dec.{eqb, leb, ltb}
 use lib.ListN.{length, getD}
 use Rattle.field.specs.Sheet.{got, Parser, _>>=_, _>>_, pure, require, times}
-use Rattle.field.specs.Field.{number, tenancy, inside, rising, climb}
+use Rattle.field.specs.Field.{number, tenancy, inside, rising, ascending}
 use Rattle.field.specs.Lists.{All, Rises}
 use Rattle.field.proofs.Sheet.{Step, bind-got, passed, pure-got}
 
@@ -53,17 +53,17 @@ rising-within floor high s at v e h =
 
 -- ---- lists
 
-pub climb-rises : (high : ℕ) (s : List ℕ) (n floor at : ℕ) (vs : List ℕ) (e : ℕ) → climb n floor high s at ≡ got vs e → (length vs ≡ n) × Rises floor high vs
-unfolding climb Rises
-climb-rises high s zero floor at vs e h =
+pub ascending-rises : (high : ℕ) (s : List ℕ) (n floor at : ℕ) (vs : List ℕ) (e : ℕ) → ascending n floor high s at ≡ got vs e → (length vs ≡ n) × Rises floor high vs
+unfolding ascending Rises
+ascending-rises high s zero floor at vs e h =
     let q : ([] ≡ vs) × (at ≡ e) = pure-got [] vs s at e h in
     subst (λ (z : List ℕ). (length z ≡ 0) × Rises floor high z) (q .0) (refl, tt)
-climb-rises high s (suc n) floor at vs e h =
-    let w : Step (rising floor high s at) (λ v m. (climb n (v + 1) high >>= λ rest. pure (v ∷ rest)) s m) vs e = bind-got (rising floor high) s at vs e (λ v. climb n (v + 1) high >>= λ rest. pure (v ∷ rest)) h in
-    let u : Step (climb n (w .found + 1) high s (w .mid)) (λ rest m. pure (w .found ∷ rest) s m) vs e = bind-got (climb n (w .found + 1) high) s (w .mid) vs e (λ rest. pure (w .found ∷ rest)) (w .last) in
+ascending-rises high s (suc n) floor at vs e h =
+    let w : Step (rising floor high s at) (λ v m. (ascending n (v + 1) high >>= λ rest. pure (v ∷ rest)) s m) vs e = bind-got (rising floor high) s at vs e (λ v. ascending n (v + 1) high >>= λ rest. pure (v ∷ rest)) h in
+    let u : Step (ascending n (w .found + 1) high s (w .mid)) (λ rest m. pure (w .found ∷ rest) s m) vs e = bind-got (ascending n (w .found + 1) high) s (w .mid) vs e (λ rest. pure (w .found ∷ rest)) (w .last) in
     let q : (w .found ∷ u .found ≡ vs) × (u .mid ≡ e) = pure-got (w .found ∷ u .found) vs s (u .mid) e (u .last) in
     let f : (w .found ≤ high) × (floor ≤ w .found) = rising-within floor high s at (w .found) (w .mid) (w .first) in
-    let g : (length (u .found) ≡ n) × Rises (w .found + 1) high (u .found) = climb-rises high s n (w .found + 1) (w .mid) (u .found) (u .mid) (u .first) in
+    let g : (length (u .found) ≡ n) × Rises (w .found + 1) high (u .found) = ascending-rises high s n (w .found + 1) (w .mid) (u .found) (u .mid) (u .first) in
     subst (λ (z : List ℕ). (length z ≡ suc n) × Rises floor high z) (q .0) (ap suc (g .0), (f .1, f .0, g .1))
 
 pub times-all : {A : Type 0} (p : Parser A) (P : A → Type 0) (s : List ℕ) → ((at : ℕ) (a : A) (e : ℕ) → p s at ≡ got a e → P a) → (n at : ℕ) (vs : List A) (e : ℕ) → times n p s at ≡ got vs e → (length vs ≡ n) × All P vs

@@ -4,7 +4,7 @@
 --     tenancy    the number of a tenancy: no tenancy is 0
 --     inside     a number within a range, or 6
 --     rising     a number up to the last of its range, or 6; not below the first that rises, or 8
---     climb      so many numbers, each above the one before it
+--     ascending      so many numbers, each above the one before it
 --     opening    kind, unit and tenancy, with which every sheet opens: another kind is 3, another unit 4
 --     end        the end of the sheet, or 9
 --     whole      all fields of a sheet, and then its end
@@ -52,11 +52,11 @@ rising floor high = do
   require (leb floor v) 8
   pure v
 
-unfoldable pub climb : ℕ → ℕ → ℕ → Parser (List ℕ)
-climb zero floor high = pure []
-climb (suc n) floor high = do
+unfoldable pub ascending : ℕ → ℕ → ℕ → Parser (List ℕ)
+ascending zero floor high = pure []
+ascending (suc n) floor high = do
   v ← rising floor high
-  vs ← climb n (v + 1) high
+  vs ← ascending n (v + 1) high
   pure (v ∷ vs)
 
 unfoldable pub opening : ℕ → ℕ → ℕ → Parser ℕ

@@ -11,23 +11,23 @@ ghost use Rattle.field.specs.Told.{told};
 // Why a sheet or a call is refused.
 pub enum Refusal {
     // The sheet ends inside a number or before one that is due.
-    Ends,
+    SheetEnds,
     // A number is not in shortest form or is too large.
-    Malformed,
+    BadNumber,
     // The kind is not the one this call takes.
-    Kind,
+    WrongKind,
     // The unit number differs.
-    Unit,
+    WrongUnit,
     // Not rented, or the tenancy differs.
-    Tenancy,
+    WrongTenancy,
     // A count or value is out of its range.
-    Range,
+    OutOfRange,
     // A block with no copies.
-    NoCopies,
+    NoCopy,
     // A disk or block number is not above the one before it.
     NotRising,
     // Bytes follow the last field.
-    Extra,
+    BytesFollow,
     // A read request before any settings.
     NoSettings,
     // The result is longer than the lent buffer.
@@ -37,7 +37,7 @@ pub enum Refusal {
     // Rent not above the last tenancy.
     NotAbove,
     // Return while not rented, or of another tenancy.
-    NotTenant,
+    NotTheTenant,
 }
 
 // What reading a field gives: its value and the place after it, or the refusal.
@@ -57,20 +57,20 @@ pub fn number_of(e: Refusal) -> u32
     ensures { λ r. ⌜ r ≡ numberOf e ⌝ }
 {
     match e {
-        Refusal::Ends => 1,
-        Refusal::Malformed => 2,
-        Refusal::Kind => 3,
-        Refusal::Unit => 4,
-        Refusal::Tenancy => 5,
-        Refusal::Range => 6,
-        Refusal::NoCopies => 7,
+        Refusal::SheetEnds => 1,
+        Refusal::BadNumber => 2,
+        Refusal::WrongKind => 3,
+        Refusal::WrongUnit => 4,
+        Refusal::WrongTenancy => 5,
+        Refusal::OutOfRange => 6,
+        Refusal::NoCopy => 7,
         Refusal::NotRising => 8,
-        Refusal::Extra => 9,
+        Refusal::BytesFollow => 9,
         Refusal::NoSettings => 10,
         Refusal::NoRoom => 11,
         Refusal::Rented => 12,
         Refusal::NotAbove => 13,
-        Refusal::NotTenant => 14,
+        Refusal::NotTheTenant => 14,
     }
 }
 
@@ -79,12 +79,12 @@ pub fn any(s: &[u8], at: usize) -> Field
     ensures { λ r. ⌜ told r ≡ number (now (s .entry)) at ⌝ }
 {
     if s.len() < at {
-        return Field::Refused(Refusal::Ends);
+        return Field::Refused(Refusal::SheetEnds);
     }
     match number::read(&s[at..]) {
         Number::Value(v, n) => Field::Got(v, at + n),
-        Number::Ends => Field::Refused(Refusal::Ends),
-        Number::Malformed => Field::Refused(Refusal::Malformed),
+        Number::Ends => Field::Refused(Refusal::SheetEnds),
+        Number::Malformed => Field::Refused(Refusal::BadNumber),
     }
 }
 
@@ -115,7 +115,7 @@ pub fn tenant(s: &[u8], at: usize, want: u32) -> Field
                     return Field::Got(v, next);
                 }
             }
-            Field::Refused(Refusal::Tenancy)
+            Field::Refused(Refusal::WrongTenancy)
         }
         Field::Refused(e) => Field::Refused(e),
     }
@@ -128,10 +128,10 @@ pub fn ranged(s: &[u8], at: usize, low: u32, high: u32) -> Field
     match any(s, at) {
         Field::Got(v, next) => {
             if v < low {
-                return Field::Refused(Refusal::Range);
+                return Field::Refused(Refusal::OutOfRange);
             }
             if high < v {
-                return Field::Refused(Refusal::Range);
+                return Field::Refused(Refusal::OutOfRange);
             }
             Field::Got(v, next)
         }
@@ -146,7 +146,7 @@ pub fn risen(s: &[u8], at: usize, floor: u32, high: u32) -> Field
     match any(s, at) {
         Field::Got(v, next) => {
             if high < v {
-                return Field::Refused(Refusal::Range);
+                return Field::Refused(Refusal::OutOfRange);
             }
             if v < floor {
                 return Field::Refused(Refusal::NotRising);
@@ -161,8 +161,8 @@ pub fn risen(s: &[u8], at: usize, floor: u32, high: u32) -> Field
 pub fn opening(s: &[u8], kind: u32, unit: u32, tenancy: u32) -> Field
     ensures { λ r. ⌜ told r ≡ opening kind unit tenancy (now (s .entry)) 0 ⌝ }
 {
-    match exact(s, 0, kind, Refusal::Kind) {
-        Field::Got(_, at) => match exact(s, at, unit, Refusal::Unit) {
+    match exact(s, 0, kind, Refusal::WrongKind) {
+        Field::Got(_, at) => match exact(s, at, unit, Refusal::WrongUnit) {
             Field::Got(_, next) => tenant(s, next, tenancy),
             Field::Refused(e) => Field::Refused(e),
         },
@@ -177,7 +177,7 @@ pub fn finish(s: &[u8], at: usize) -> Field
     if at == s.len() {
         Field::Got(0, at)
     } else {
-        Field::Refused(Refusal::Extra)
+        Field::Refused(Refusal::BytesFollow)
     }
 }
 

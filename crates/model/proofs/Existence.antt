@@ -18,7 +18,7 @@ use Rattle.model.specs.Case.{Case, Priced, Held, Schedule, response, InT
 use Rattle.model.specs.Shortfall.{size, room, Short, NoShorter, Greatest}
 use Rattle.model.specs.Order.{Agree, FirstOf, Lowest}
 use Rattle.model.specs.Time.{LeastTime, members, roomAt, ShortAt, GreatestEarliest}
-use Rattle.model.specs.Plan.{Plan}
+use Rattle.model.specs.Plan.{Optimal}
 use Rattle.model.proofs.Bool.{differ, and-left, and-right, and-both}
 use Rattle.model.proofs.Sum.{below-suc}
 use Rattle.model.proofs.Capacity.{response-within, within-response}
@@ -208,7 +208,7 @@ first-in-time-exists m R p l =
           (f .1)),
     )
 
-pub plan-exists : (m : Case) → Priced m → Held m → (R : ℕ) × (a : ℕ → ℕ) × (S : ℕ → Bool) × Plan m R a S
+pub plan-exists : (m : Case) → Priced m → Held m → (R : ℕ) × (a : ℕ → ℕ) × (S : ℕ → Bool) × Optimal m R a S
 plan-exists m p c =
     below-or 0 (m .blocks)
     (λ h.
@@ -222,15 +222,15 @@ plan-exists m p c =
 -- exactly one
 pub plan-one : (m : Case) → Priced m → Held m
     → (R : ℕ) × (a : ℕ → ℕ) × (S : ℕ → Bool)
-    × Plan m R a S
-    × ((R′ : ℕ) (a′ : ℕ → ℕ) (S′ : ℕ → Bool) → Plan m R′ a′ S′ → (R ≡ R′) × Agree (m .blocks) a a′ × Agree (m .blocks) S S′)
+    × Optimal m R a S
+    × ((R′ : ℕ) (a′ : ℕ → ℕ) (S′ : ℕ → Bool) → Optimal m R′ a′ S′ → (R ≡ R′) × Agree (m .blocks) a a′ × Agree (m .blocks) S S′)
 plan-one m p c =
     let f = plan-exists m p c in
     (f .0, f .1, f .2, f .3, λ R′ a′ S′ l. plan-unique m (f .0) R′ (f .1) a′ (f .2) S′ (f .3) l)
 
 -- ---- what a plan tells
 
-pub plan-certificate : (m : Case) (R : ℕ) (a : ℕ → ℕ) (S : ℕ → Bool) → Priced m → 0 < m .blocks → Plan m R a S → Certificate m R a S
+pub plan-certificate : (m : Case) (R : ℕ) (a : ℕ → ℕ) (S : ℕ → Bool) → Priced m → 0 < m .blocks → Optimal m R a S → Certificate m R a S
 unfolding HasTime Schedule ShortAt Short Greatest NoShorter
 plan-certificate m R a S p h l =
     let v : Schedule m a = l .first .holds .0 in
@@ -245,10 +245,10 @@ plan-certificate m R a S p h l =
           (hall-or (m .disks) (m .blocks) (m .copy) (capacityAt m (R - 1)));
     }
 
-pub plan-greatest : (m : Case) (R : ℕ) (a : ℕ → ℕ) (S : ℕ → Bool) → Priced m → 0 < m .blocks → Plan m R a S → GreatestEarliest m R
+pub plan-greatest : (m : Case) (R : ℕ) (a : ℕ → ℕ) (S : ℕ → Bool) → Priced m → 0 < m .blocks → Optimal m R a S → GreatestEarliest m R
 plan-greatest m R a S p h l = certificate-greatest m R a S p (plan-certificate m R a S p h l)
 
 -- a plan's short set is not empty
-pub plan-short : (m : Case) (R : ℕ) (a : ℕ → ℕ) (S : ℕ → Bool) → Priced m → 0 < m .blocks → Plan m R a S → 0 < members m S
+pub plan-short : (m : Case) (R : ℕ) (a : ℕ → ℕ) (S : ℕ → Bool) → Priced m → 0 < m .blocks → Optimal m R a S → 0 < members m S
 unfolding members ShortAt Short
 plan-short m R a S p h l = omega (arith, (plan-certificate m R a S p h l) .short)

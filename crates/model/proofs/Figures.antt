@@ -19,7 +19,7 @@ use Rattle.model.specs.Capacity.{endTime, pick, capacity}
 use Rattle.model.specs.Case.{Case, base, Schedule, endOf, response, HasTime, capacityAt}
 use Rattle.model.specs.Shortfall.{touches, size, room, Sub, NoShorter, Greatest}
 use Rattle.model.specs.Order.{Agree, Before}
-use Rattle.model.specs.Plan.{Plan}
+use Rattle.model.specs.Plan.{Optimal}
 use Rattle.model.specs.Figures.{Figure, request, capacities, isOn, asked, Holds, AllHold, table}
 use Rattle.model.proofs.Bool.{differ, and-left, and-right, and-both}
 use Rattle.model.proofs.Sum.{below-suc, any-here, any-ext, count-ext, latest-ext}
@@ -228,7 +228,7 @@ unfolding sets?
 wider-here m R S e X =
     every-here false (true ∷ false ∷ []) (m .blocks) (wider? m R S) (wider-only m R S) e X (λ b h. bool-on (X b))
 
-planned-law : (m : Case) (R : ℕ) (a : ℕ → ℕ) (S : ℕ → Bool) → planned m R a S ≡ true → Plan m R a S
+planned-law : (m : Case) (R : ℕ) (a : ℕ → ℕ) (S : ℕ → Bool) → planned m R a S ≡ true → Optimal m R a S
 unfolding planned wider? room? HasTime Greatest NoShorter Sub
 planned-law m R a S e =
     let f = four (schedule? m a) (eqb (response m a) R) (schedules? m R a) (sets? m R S) e in

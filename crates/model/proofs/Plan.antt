@@ -15,7 +15,7 @@ use Rattle.model.specs.Case.{Case, Schedule, endOf, response, HasTime, c
 use Rattle.model.specs.Shortfall.{size, Sub, NoShorter, Greatest, ShortSet}
 use Rattle.model.specs.Order.{Agree, Before, FirstOf}
 use Rattle.model.specs.Time.{members}
-use Rattle.model.specs.Plan.{Plan}
+use Rattle.model.specs.Plan.{Optimal}
 use Rattle.model.proofs.Sum.{latest-le, count-most}
 use Rattle.model.proofs.Capacity.{endTime-idle}
 use Rattle.model.proofs.Duality.{room-mono}
@@ -23,7 +23,7 @@ use Rattle.model.proofs.Time.{time-unique}
 use Rattle.model.proofs.Closed.{short-unique}
 use Rattle.model.proofs.Order.{first-unique}
 
-pub plan-unique : (m : Case) (R R′ : ℕ) (a a′ : ℕ → ℕ) (S S′ : ℕ → Bool) → Plan m R a S → Plan m R′ a′ S′
+pub plan-unique : (m : Case) (R R′ : ℕ) (a a′ : ℕ → ℕ) (S S′ : ℕ → Bool) → Optimal m R a S → Optimal m R′ a′ S′
     → (R ≡ R′) × Agree (m .blocks) a a′ × Agree (m .blocks) S S′
 plan-unique m R R′ a a′ S S′ p p′ =
     let e : R′ ≡ R = time-unique m R′ R (p′ .least) (p .least) in (
@@ -51,7 +51,7 @@ idle-ends m e a =
     go : (d b : ℕ) → b ≡ 0 → endTime (m .start d) (m .cost d) b ≤ 0
     go d b z = omega (arith, ap (endTime (m .start d) (m .cost d)) z, endTime-idle (m .start d) (m .cost d))
 
-pub no-blocks : (m : Case) (a : ℕ → ℕ) (S : ℕ → Bool) → m .blocks ≡ 0 → Plan m 0 a S
+pub no-blocks : (m : Case) (a : ℕ → ℕ) (S : ℕ → Bool) → m .blocks ≡ 0 → Optimal m 0 a S
 unfolding HasTime Schedule Valid Before Greatest NoShorter Sub size
 no-blocks m a S e =
     let none : (b : ℕ) → b < m .blocks → ⊥ = λ b h. omega (arith, e) in
@@ -71,7 +71,7 @@ no-blocks m a S e =
       };
     }
 
-pub no-blocks-plan : (m : Case) (R : ℕ) (a : ℕ → ℕ) (S : ℕ → Bool) → m .blocks ≡ 0 → Plan m R a S → (R ≡ 0) × (members m S ≡ 0)
+pub no-blocks-plan : (m : Case) (R : ℕ) (a : ℕ → ℕ) (S : ℕ → Bool) → m .blocks ≡ 0 → Optimal m R a S → (R ≡ 0) × (members m S ≡ 0)
 unfolding members size
 no-blocks-plan m R a S e p = (
   time-unique m R 0 (p .least) ((no-blocks m a S e) .least),

@@ -11,7 +11,7 @@ use lib.Dec.{eqb}
 use lib.ListN.{length, getD}
 use Rattle.model.specs.Case.{Case, base, capacityAt}
 use Rattle.model.specs.Shortfall.{size}
-use Rattle.model.specs.Plan.{Plan}
+use Rattle.model.specs.Plan.{Optimal}
 
 -- one line of the table
 pub data Figure : Type 0 where
@@ -33,7 +33,7 @@ asked copies =
 
 -- a request's plan, with a disk for each block and as many entries in the short set as it has blocks
 pub record Answer (copies : List (List ℕ)) (R : ℕ) (disks short : List ℕ) : Type 0 where
-  pub plan : Plan (asked copies) R (λ b. getD disks b 0) (isOn short)
+  pub plan : Optimal (asked copies) R (λ b. getD disks b 0) (isOn short)
   pub every-block : length disks ≡ length copies
   pub no-other : length short ≡ size (length copies) (isOn short)
 

@@ -8,13 +8,13 @@ use mathlib.Core.List.{List}
 use Prim.Native.Nat.{ℕ, _-_, _≤_}
 use Rattle.number.proofs.Choice.{pick-elim}
 use Rattle.field.specs.Sheet.{Out, got, refused, Parser, andThen, _>>=_, _>>_, pure, times}
-use Rattle.field.specs.Field.{opening, inside, climb, end, whole}
+use Rattle.field.specs.Field.{opening, inside, ascending, end, whole}
 use Rattle.field.specs.declared.Field.{Field}
 use Rattle.field.specs.declared.Field.the-variants.{Got, Refused}
 use Rattle.field.specs.declared.Refusal.{Refusal}
 use Rattle.field.specs.Refusal.{numberOf}
 use Rattle.field.specs.Told.{told}
-use Rattle.field.proofs.Values.{times-all, climb-rises}
+use Rattle.field.proofs.Values.{times-all, ascending-rises}
 use Rattle.field.proofs.Whole.{whole-as, whole-refused}
 use Rattle.field.proofs.Sheet.{next, then, stops, halts, Step, bind-got, after-got, pure-got}
 use Rattle.plan.specs.declared.Found.{Found}
@@ -68,16 +68,16 @@ end-tail : (xs s : List ℕ) (at : ℕ) → end s at ≡ ended ((end >> pure xs)
 unfolding end ended andThen _>>_ pure
 end-tail xs s at = pick-elim (λ (o : Out ℕ). o ≡ ended (andThen o (λ _ k. got xs k))) _ _ _ (λ _. refl) (λ _. refl)
 
-module _ (m high q : ℕ) (s : List ℕ) (at : ℕ) {f : Field} (same : high ≡ q - 1) (h : told f ≡ ended (climb m 0 high s at)) where
-  pub last-end : {v e : ℕ} → f ≡ Got v e → end s e ≡ ended (whole (climb m 0 (q - 1)) s at)
+module _ (m high q : ℕ) (s : List ℕ) (at : ℕ) {f : Field} (same : high ≡ q - 1) (h : told f ≡ ended (ascending m 0 high s at)) where
+  pub last-end : {v e : ℕ} → f ≡ Got v e → end s e ≡ ended (whole (ascending m 0 (q - 1)) s at)
   unfolding whole
   last-end {v} {e} g =
-      let w : (xs : List ℕ) × (climb m 0 (q - 1) s at ≡ got xs e) = list-got (climb m 0 (q - 1) s at) (h ∙ ap (λ (k : ℕ). ended (climb m 0 k s at)) same) g in
-      end-tail (w .0) s e ∙ ap ended (sym (next (climb m 0 (q - 1)) _ s at (w .1)))
+      let w : (xs : List ℕ) × (ascending m 0 (q - 1) s at ≡ got xs e) = list-got (ascending m 0 (q - 1) s at) (h ∙ ap (λ (k : ℕ). ended (ascending m 0 k s at)) same) g in
+      end-tail (w .0) s e ∙ ap ended (sym (next (ascending m 0 (q - 1)) _ s at (w .1)))
 
-  pub last-stop : {e : Refusal} → f ≡ Refused e → refused (numberOf e) ≡ ended (whole (climb m 0 (q - 1)) s at)
+  pub last-stop : {e : Refusal} → f ≡ Refused e → refused (numberOf e) ≡ ended (whole (ascending m 0 (q - 1)) s at)
   unfolding ended
-  last-stop {e} g = sym (ap ended (whole-refused (climb m 0 (q - 1)) s at (list-refused (climb m 0 (q - 1) s at) (h ∙ ap (λ (k : ℕ). ended (climb m 0 k s at)) same) g)))
+  last-stop {e} g = sym (ap ended (whole-refused (ascending m 0 (q - 1)) s at (list-refused (ascending m 0 (q - 1) s at) (h ∙ ap (λ (k : ℕ). ended (ascending m 0 k s at)) same) g)))
 
 -- ---- the lists
 
@@ -95,34 +95,34 @@ module _ (q r : ℕ) (s : List ℕ) (at : ℕ) {d : Field} (h : told d ≡ ended
 
     module _ {m next-at : ℕ} (z : sizeOf q s p ≡ got m next-at) where
       rest : (ds : List ℕ) → Parser Plan
-      rest ds = climb m 0 (q - 1) >>= λ bs. pure (record { time = r; disks = ds; short = bs })
+      rest ds = ascending m 0 (q - 1) >>= λ bs. pure (record { time = r; disks = ds; short = bs })
 
       before : (ds : List ℕ) → times q (inside 0 63) s at ≡ got ds p → whole (listsOf q r) s at ≡ whole (rest ds) s next-at
       unfolding listsOf rest
       before ds w = whole-as (listsOf q r) s at (rest ds) next-at (next (times q (inside 0 63)) _ s at w ∙ next (sizeOf q) _ s p z)
 
-      pub lists-short : {n : ℕ} → ended (whole (climb m 0 (q - 1)) s next-at) ≡ refused n → whole (listsOf q r) s at ≡ refused n
+      pub lists-short : {n : ℕ} → ended (whole (ascending m 0 (q - 1)) s next-at) ≡ refused n → whole (listsOf q r) s at ≡ refused n
       unfolding rest
       lists-short {n} x =
           let w : (ds : List ℕ) × (times q (inside 0 63) s at ≡ got ds p) = list-got (times q (inside 0 63) s at) h g in
-          before (w .0) (w .1) ∙ whole-map-refused (climb m 0 (q - 1)) _ s next-at (ended-refused (whole (climb m 0 (q - 1)) s next-at) n x)
+          before (w .0) (w .1) ∙ whole-map-refused (ascending m 0 (q - 1)) _ s next-at (ended-refused (whole (ascending m 0 (q - 1)) s next-at) n x)
 
-      pub lists-done : {u e : ℕ} → q ≤ 1024 → ended (whole (climb m 0 (q - 1)) s next-at) ≡ got u e → Checked s (whole (listsOf q r) s at) (Whole (record { blocks = q; time = r; size = m; disks = at; short = next-at }))
+      pub lists-done : {u e : ℕ} → q ≤ 1024 → ended (whole (ascending m 0 (q - 1)) s next-at) ≡ got u e → Checked s (whole (listsOf q r) s at) (Whole (record { blocks = q; time = r; size = m; disks = at; short = next-at }))
       unfolding rest Checked whole
       lists-done {u} {e} l x =
           let w : (ds : List ℕ) × (times q (inside 0 63) s at ≡ got ds p) = list-got (times q (inside 0 63) s at) h g in
-          let y : (bs : List ℕ) × (whole (climb m 0 (q - 1)) s next-at ≡ got bs e) = ended-got (whole (climb m 0 (q - 1)) s next-at) u e x in
-          let b : Step (climb m 0 (q - 1) s next-at) (λ bs n. (end >> pure bs) s n) (y .0) e = bind-got (climb m 0 (q - 1)) s next-at (y .0) e (λ bs. end >> pure bs) (y .1) in
+          let y : (bs : List ℕ) × (whole (ascending m 0 (q - 1)) s next-at ≡ got bs e) = ended-got (whole (ascending m 0 (q - 1)) s next-at) u e x in
+          let b : Step (ascending m 0 (q - 1) s next-at) (λ bs n. (end >> pure bs) s n) (y .0) e = bind-got (ascending m 0 (q - 1)) s next-at (y .0) e (λ bs. end >> pure bs) (y .1) in
           let c : Step (end s (b .mid)) (λ _ n. pure (b .found) s n) (y .0) e = after-got end s (b .mid) (y .0) e (pure (b .found)) (b .last) in
           let same : b .found ≡ y .0 = pure-got (b .found) (y .0) s (c .mid) e (c .last) .0 in
-          let all : climb m 0 (q - 1) s next-at ≡ got (y .0) (b .mid) = b .first ∙ ap (λ (z : List ℕ). got z (b .mid)) same in (
+          let all : ascending m 0 (q - 1) s next-at ≡ got (y .0) (b .mid) = b .first ∙ ap (λ (z : List ℕ). got z (b .mid)) same in (
             record { time = r; disks = w .0; short = y .0 },
             e,
-            before (w .0) (w .1) ∙ whole-map-got (climb m 0 (q - 1)) _ s next-at (y .1),
+            before (w .0) (w .1) ∙ whole-map-got (ascending m 0 (q - 1)) _ s next-at (y .1),
             record {
               few = l;
               blocks = times-all (inside 0 63) (λ _. Unit) s (λ _ _ _ _. tt) q at (w .0) p (w .1) .0;
-              size = climb-rises (q - 1) s m 0 next-at (y .0) (b .mid) all .0;
+              size = ascending-rises (q - 1) s m 0 next-at (y .0) (b .mid) all .0;
               time = refl;
               disks-end = p;
               short-end = b .mid;

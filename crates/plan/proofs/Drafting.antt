@@ -11,7 +11,7 @@ use Rattle.number.specs.Encode.{encode, widthOf}
 use Rattle.number.proofs.Choice.{pick-true, pick-false, paired, first-false, second-false}
 use Rattle.field.specs.Put.{spellAll, openingBytes}
 use Rattle.field.specs.declared.Written.the-variants.{Length, Refused}
-use Rattle.field.specs.declared.Refusal.the-variants.{Range, NoRoom}
+use Rattle.field.specs.declared.Refusal.the-variants.{OutOfRange, NoRoom}
 use Rattle.field.specs.Refusal.{numberOf}
 use Rattle.field.specs.Send.{Draft, sheet, none, Sent}
 use Rattle.field.proofs.Puts.{front-room}
@@ -59,16 +59,16 @@ module _ (unit t : ℕ) (p : Plan) where
   draft k l = pick-true (sheet (planBytes unit t p)) (none 6) (paired (le-leb _ _ k) (le-leb _ _ l))
 
   module _ (out : List ℕ) where
-    none-sent : counted p ≡ false → Sent (planDraft unit t p) out (Refused Range) out
+    none-sent : counted p ≡ false → Sent (planDraft unit t p) out (Refused OutOfRange) out
     unfolding planDraft numberOf
-    none-sent h = subst (λ (d : Draft). Sent d out (Refused Range) out) (sym (pick-false (sheet (planBytes unit t p)) (none 6) h)) (sent-refused Range out)
+    none-sent h = subst (λ (d : Draft). Sent d out (Refused OutOfRange) out) (sym (pick-false (sheet (planBytes unit t p)) (none 6) h)) (sent-refused OutOfRange out)
 
     -- too many blocks, or too large a short set
-    pub many-disks : 1024 < length (p .disks) → Sent (planDraft unit t p) out (Refused Range) out
+    pub many-disks : 1024 < length (p .disks) → Sent (planDraft unit t p) out (Refused OutOfRange) out
     unfolding counted
     many-disks h = none-sent (first-false _ (lt-leb _ _ h))
 
-    pub many-members : 1024 < length (p .short) → Sent (planDraft unit t p) out (Refused Range) out
+    pub many-members : 1024 < length (p .short) → Sent (planDraft unit t p) out (Refused OutOfRange) out
     unfolding counted
     many-members h = none-sent (second-false (leb (length (p .disks)) 1024) (lt-leb _ _ h))
 

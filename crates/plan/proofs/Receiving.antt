@@ -12,7 +12,7 @@ use lib.Dec.{leb}
 use lib.ListN.{length}
 use Rattle.number.proofs.Choice.{pick-true, pick-false, either, paired, first-false, second-false}
 use Rattle.field.specs.Sheet.{Out, got, refused, times}
-use Rattle.field.specs.Field.{inside, climb}
+use Rattle.field.specs.Field.{inside, ascending}
 use Rattle.field.specs.declared.Refusal.{Refusal}
 use Rattle.field.specs.declared.Refusal.the-variants.{NoRoom}
 use Rattle.field.specs.Refusal.{numberOf}
@@ -54,7 +54,7 @@ module _ (p : Plan) (e : ℕ) (disks short : List ℕ) where
     few-members l = no-room (second-false (leb (length (p .disks)) (length disks)) (lt-leb (length (p .short)) (length short) (omega (arith, w .size))))
 
     -- both lists were filled
-    pub received : {disks′ short′ : List ℕ} (high : ℕ) → high ≡ f .blocks - 1 → f .blocks ≤ length disks → f .size ≤ length short → Holds (times (f .blocks) (inside 0 63) s (f .disks)) disks disks′ → Holds (climb (f .size) 0 high s (f .short)) short short′ → Received (got p e) e disks short (Accepted (record { blocks = f .blocks; time = f .time; size = f .size })) disks′ short′
+    pub received : {disks′ short′ : List ℕ} (high : ℕ) → high ≡ f .blocks - 1 → f .blocks ≤ length disks → f .size ≤ length short → Holds (times (f .blocks) (inside 0 63) s (f .disks)) disks disks′ → Holds (ascending (f .size) 0 high s (f .short)) short short′ → Received (got p e) e disks short (Accepted (record { blocks = f .blocks; time = f .time; size = f .size })) disks′ short′
     unfolding roomFor toldPlan settle heads disksLeft shortLeft Holds
     received {disks′} {short′} high top k l a b =
         let room : roomFor p disks short ≡ true = paired (le-leb (length (p .disks)) (length disks) (omega (arith, w .blocks))) (le-leb (length (p .short)) (length short) (omega (arith, w .size))) in

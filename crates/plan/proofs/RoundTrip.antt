@@ -11,7 +11,7 @@ use lib.ListN.{length, take}
 use Rattle.number.specs.Bytes.{Bytes}
 use Rattle.number.specs.Encode.{encode}
 use Rattle.field.specs.Sheet.{got, _>>=_, pure, times}
-use Rattle.field.specs.Field.{opening, inside, climb}
+use Rattle.field.specs.Field.{opening, inside, ascending}
 use Rattle.field.specs.Put.{spellAll, openingBytes}
 use Rattle.field.specs.declared.Written.the-variants.{Length}
 use Rattle.field.specs.Send.{sheet, Sent}
@@ -21,7 +21,7 @@ use Rattle.field.proofs.Spelt.{Spelt, spelt-join, spelt-whole, inside-spelt}
 use Rattle.field.proofs.Whole.{whole-got}
 use Rattle.field.proofs.Opened.{reads-opening, opening-spelt}
 use Rattle.field.specs.Lists.{All, Rises}
-use Rattle.field.proofs.Lists.{reads-times, reads-climb, times-spelt, climb-spelt}
+use Rattle.field.proofs.Lists.{reads-times, reads-ascending, times-spelt, ascending-spelt}
 use Rattle.plan.specs.Plan.{Plan, ifAny, timeOf, sizeOf, listsOf, planFields, planSheet}
 use Rattle.plan.specs.Range.{InRange}
 use Rattle.plan.specs.Receive.{Received}
@@ -54,7 +54,7 @@ module _ (unit t : ℕ) (p : Plan) where
     reads-lists =
         reads-bind _ (reads-times (inside 0 63) encode (λ d. d ≤ 63) (λ d k. reads-inside 0 63 d (omega arith) k (omega arith)) (p .disks) (r .disks))
         (reads-bind _ (reads-inside (ifAny (length (p .disks)) 1) (length (p .disks)) (length (p .short)) (r .size-from) (r .size-to) (omega (arith, r .few, r .size-to)))
-        (reads-checked _ (reads-climb (length (p .disks) - 1) (omega (arith, r .few)) 0 (p .short) (r .blocks)) (reads-pure p)))
+        (reads-checked _ (reads-ascending (length (p .disks) - 1) (omega (arith, r .few)) 0 (p .short) (r .blocks)) (reads-pure p)))
 
     reads-plan : Reads (planFields unit t) (openingBytes 3 unit t ++ (encode (length (p .disks)) ++ (encode (p .time) ++ listsBytes p))) p
     unfolding planFields timeOf
@@ -84,14 +84,14 @@ module _ (s : List ℕ) (b : Bytes s) where
   lists-spelt : (q r at : ℕ) (p : Plan) (e : ℕ) → at ≤ length s → listsOf q r s at ≡ got p e → Lists q r at p e
   unfolding listsOf sizeOf listsBytes
   lists-spelt q r at p e l h =
-      let w : Step (times q (inside 0 63) s at) (λ ds n. (sizeOf q >>= λ m. climb m 0 (q - 1) >>= λ bs. pure (record { time = r; disks = ds; short = bs })) s n) p e = bind-got (times q (inside 0 63)) s at p e _ h in
+      let w : Step (times q (inside 0 63) s at) (λ ds n. (sizeOf q >>= λ m. ascending m 0 (q - 1) >>= λ bs. pure (record { time = r; disks = ds; short = bs })) s n) p e = bind-got (times q (inside 0 63)) s at p e _ h in
       let ds : List ℕ = w .found in
       let x : Spelt s at (w .mid) (spellAll encode ds) × (length ds ≡ q) × All (λ d. d ≤ 63) ds = times-spelt (inside 0 63) encode (λ d. d ≤ 63) s (λ i d n k. (inside-spelt s i d n b 0 63 k .0, inside-spelt s i d n b 0 63 k .2)) q at ds (w .mid) l (w .first) in
-      let z : Step (sizeOf q s (w .mid)) (λ m n. (climb m 0 (q - 1) >>= λ bs. pure (record { time = r; disks = ds; short = bs })) s n) p e = bind-got (sizeOf q) s (w .mid) p e _ (w .last) in
+      let z : Step (sizeOf q s (w .mid)) (λ m n. (ascending m 0 (q - 1) >>= λ bs. pure (record { time = r; disks = ds; short = bs })) s n) p e = bind-got (sizeOf q) s (w .mid) p e _ (w .last) in
       let y : Spelt s (w .mid) (z .mid) (encode (z .found)) × (ifAny q 1 ≤ z .found) × (z .found ≤ q) = inside-spelt s (w .mid) (z .found) (z .mid) b (ifAny q 1) q (z .first) in
-      let c : Step (climb (z .found) 0 (q - 1) s (z .mid)) (λ bs n. pure (record { time = r; disks = ds; short = bs }) s n) p e = bind-got (climb (z .found) 0 (q - 1)) s (z .mid) p e _ (z .last) in
+      let c : Step (ascending (z .found) 0 (q - 1) s (z .mid)) (λ bs n. pure (record { time = r; disks = ds; short = bs }) s n) p e = bind-got (ascending (z .found) 0 (q - 1)) s (z .mid) p e _ (z .last) in
       let bs : List ℕ = c .found in
-      let g : Spelt s (z .mid) (c .mid) (spellAll encode bs) × (length bs ≡ z .found) × Rises 0 (q - 1) bs = climb-spelt (q - 1) s b (z .found) 0 (z .mid) bs (c .mid) (y .0 .within) (c .first) in
+      let g : Spelt s (z .mid) (c .mid) (spellAll encode bs) × (length bs ≡ z .found) × Rises 0 (q - 1) bs = ascending-spelt (q - 1) s b (z .found) 0 (z .mid) bs (c .mid) (y .0 .within) (c .first) in
       let f : (record { time = r; disks = ds; short = bs } ≡ p) × (c .mid ≡ e) = pure-got (record { time = r; disks = ds; short = bs }) p s (c .mid) e (c .last) in
       let m : Spelt s (w .mid) (z .mid) (encode (length bs)) = subst (λ (k : ℕ). Spelt s (w .mid) (z .mid) (encode k)) (sym (g .1)) (y .0) in
       let found : Lists q r at (record { time = r; disks = ds; short = bs }) (c .mid) = record {

@@ -9,7 +9,7 @@ use mathlib.Core.List.{List}
 use lib.ListN.{length}
 use Rattle.field.specs.declared.Field.{Field}
 use Rattle.field.specs.Sheet.{Out, got, refused, times}
-use Rattle.field.specs.Field.{inside, climb}
+use Rattle.field.specs.Field.{inside, ascending}
 use Rattle.field.specs.Told.{told}
 use Rattle.field.specs.Refusal.{numberOf}
 use Rattle.plan.specs.declared.Frame.{Frame}
@@ -42,7 +42,7 @@ pub record Framed (s : List ℕ) (p : Plan) (f : Frame) : Type 0 where
   pub disks-end : ℕ
   pub short-end : ℕ
   pub disks : times (f .blocks) (inside 0 63) s (f .disks) ≡ got (p .disks) disks-end
-  pub short : climb (f .size) 0 (f .blocks - 1) s (f .short) ≡ got (p .short) short-end
+  pub short : ascending (f .size) 0 (f .blocks - 1) s (f .short) ≡ got (p .short) short-end
 
 -- the plan that a sheet says and its frame, or why the sheet is refused
 unfoldable pub Checked : List ℕ → Out Plan → Found → Type 0

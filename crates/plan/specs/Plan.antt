@@ -7,7 +7,7 @@
 use Prim.Native.Nat.{ℕ, zero, suc, _-_}
 use mathlib.Core.List.{List}
 use Rattle.field.specs.Sheet.{Parser, _>>=_, _>>_, pure, times}
-use Rattle.field.specs.Field.{opening, inside, climb, whole}
+use Rattle.field.specs.Field.{opening, inside, ascending, whole}
 
 pub record Plan : Type 0 where
   pub time : ℕ
@@ -32,7 +32,7 @@ unfoldable pub listsOf : ℕ → ℕ → Parser Plan
 listsOf q r = do
   ds ← times q (inside 0 63)
   m ← sizeOf q
-  bs ← climb m 0 (q - 1)
+  bs ← ascending m 0 (q - 1)
   pure (record { time = r; disks = ds; short = bs })
 
 -- kind 3, unit, tenancy, Q, R and the lists

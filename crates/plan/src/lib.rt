@@ -8,7 +8,7 @@ ghost use Prim.Native.Nat.{ℕ, _-_, _≤_, _<_};
 ghost use lib.ListN.{length};
 ghost use Rattle.number.specs.Encode.{encode};
 ghost use Rattle.field.specs.Sheet.{got, times};
-ghost use Rattle.field.specs.Field.{inside, climb, whole};
+ghost use Rattle.field.specs.Field.{inside, ascending, whole};
 ghost use Rattle.field.specs.Put.{spellAll};
 ghost use Rattle.field.specs.Send.{Sent};
 ghost use Rattle.field.specs.Told.{told};
@@ -87,7 +87,7 @@ fn read_disks(s: &[u8], at: usize, q: u32, out: &mut [u8]) -> Field
 // The m rising block numbers up to the last one, put at the start of a list.
 fn read_short(s: &[u8], at: usize, m: u32, high: u32, out: &mut [u16]) -> Field
     requires { ⌜ (m ≤ length (now out)) × (high < 1024) ⌝ }
-    ensures { λ r. ⌜ Filled (climb m 0 high (now (s .entry)) at) (now (out .entry)) r (now (out .exit)) ⌝ }
+    ensures { λ r. ⌜ Filled (ascending m 0 high (now (s .entry)) at) (now (out .entry)) r (now (out .exit)) ⌝ }
 {
     let n = m as usize;
     let mut p = at;
@@ -119,7 +119,7 @@ fn past_disks(s: &[u8], at: usize, q: u32) -> Field
 // The short set's blocks, and then the end of the sheet.
 fn short_last(s: &[u8], at: usize, m: u32, q: u32) -> Field
     requires { ⌜ (m ≤ q) × (q ≤ 1024) ⌝ }
-    ensures { λ r. ⌜ told r ≡ ended (whole (climb m 0 (q - 1)) (now (s .entry)) at) ⌝ }
+    ensures { λ r. ⌜ told r ≡ ended (whole (ascending m 0 (q - 1)) (now (s .entry)) at) ⌝ }
 {
     let mut scratch = [0u16; 1024];
     match read_short(s, at, m, last(q), &mut scratch) {
@@ -293,10 +293,10 @@ pub fn write(
     ensures { λ r. ⌜ Sent (planDraft unit tenancy (record { time = time; disks = now (disks .entry); short = now (short .entry) })) (now (out .entry)) r (now (out .exit)) ⌝ }
 {
     if 1024 < disks.len() {
-        return Written::Refused(Refusal::Range);
+        return Written::Refused(Refusal::OutOfRange);
     }
     if 1024 < short.len() {
-        return Written::Refused(Refusal::Range);
+        return Written::Refused(Refusal::OutOfRange);
     }
     if out.len() < sheet_width(unit, tenancy, time, disks, short) {
         return Written::Refused(Refusal::NoRoom);

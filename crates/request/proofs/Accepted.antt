@@ -17,7 +17,7 @@ use Rattle.mask.proofs.Members.{members-zero}
 use Rattle.field.specs.declared.Refusal.{Refusal}
 use Rattle.field.specs.Refusal.{numberOf}
 use Rattle.field.specs.Sheet.{Out, got, refused}
-use Rattle.field.proofs.Values.{climb-rises, times-all, all-at}
+use Rattle.field.proofs.Values.{ascending-rises, times-all, all-at}
 use Rattle.field.specs.Lists.{All, Rises}
 use Rattle.request.specs.declared.Answer.the-variants.{Accepted, Refused}
 use Rattle.request.specs.declared.Request.{Request}
@@ -57,7 +57,7 @@ sendable n known within k ds r e some few =
 pub block-sendable : (n : ℕ) → (n ≡ 0 → ⊥) → n ≤ 64 → (s : List ℕ) (at m e : ℕ) → block (lastDisk n) s at ≡ got m e → Sendable n m
 block-sendable n known within s at m e h =
     let w : Listed (lastDisk n) s at m e = block-got (lastDisk n) s at m e h in
-    let r : (length (w .disks) ≡ w .count) × Rises 0 (lastDisk n) (w .disks) = climb-rises (lastDisk n) s (w .count) 0 (w .mid) (w .disks) e (w .rest) in
+    let r : (length (w .disks) ≡ w .count) × Rises 0 (lastDisk n) (w .disks) = ascending-rises (lastDisk n) s (w .count) 0 (w .mid) (w .disks) e (w .rest) in
     subst (Sendable n) (w .sum) (sendable n known within (w .count) (w .disks) (r .1) (r .0) (w .some) (w .few))
 
 -- ---- the copies that are handed out

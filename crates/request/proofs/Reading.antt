@@ -19,7 +19,7 @@ use Rattle.number.proofs.Choice.{pick-true, pick-false, pick-elim}
 use Rattle.field.specs.declared.Refusal.{Refusal}
 use Rattle.field.specs.Refusal.{numberOf}
 use Rattle.field.specs.Sheet.{Out, got, refused, Parser, andThen, _>>=_, _>>_, pure, require, times}
-use Rattle.field.specs.Field.{number, opening, inside, rising, climb, end, whole}
+use Rattle.field.specs.Field.{number, opening, inside, rising, ascending, end, whole}
 use Rattle.field.proofs.Sheet.{next, then, stops, halts, pass, fail, Step, bind-got, after-got, passed, pure-got}
 use Rattle.field.proofs.Values.{inside-range}
 use Rattle.field.proofs.Lists.{prefix, times-start, times-step, times-stop, times-done}
@@ -69,21 +69,21 @@ unfolding _>>=_ pure
 summed q s at = masked-none (q s at)
 
 module _ (high : ℕ) (s : List ℕ) (left floor at m : ℕ) where
-  pub gather-done : left ≡ 0 → masked m (climb left floor high s at) ≡ got m at
-  unfolding climb masked maskOf pure
-  gather-done z = ap (λ (k : ℕ). masked m (climb k floor high s at)) z ∙ ap (λ (k : ℕ). got k at) (omega arith)
+  pub gather-done : left ≡ 0 → masked m (ascending left floor high s at) ≡ got m at
+  unfolding ascending masked maskOf pure
+  gather-done z = ap (λ (k : ℕ). masked m (ascending k floor high s at)) z ∙ ap (λ (k : ℕ). got k at) (omega arith)
 
-  pub gather-step : {v e : ℕ} (r : ℕ) → r ≡ m + 2 ^ v → (left ≡ 0 → ⊥) → rising floor high s at ≡ got v e → masked m (climb left floor high s at) ≡ masked r (climb (left - 1) (v + 1) high s e)
-  unfolding climb
+  pub gather-step : {v e : ℕ} (r : ℕ) → r ≡ m + 2 ^ v → (left ≡ 0 → ⊥) → rising floor high s at ≡ got v e → masked m (ascending left floor high s at) ≡ masked r (ascending (left - 1) (v + 1) high s e)
+  unfolding ascending
   gather-step {v} {e} r q z h =
       let k : left ≡ suc (left - 1) = omega arith in
-      ap (λ (k : ℕ). masked m (climb k floor high s at)) k ∙ ap (masked m) (next (rising floor high) _ s at h) ∙ listed m v (climb (left - 1) (v + 1) high) s e ∙ ap (λ (k : ℕ). masked k (climb (left - 1) (v + 1) high s e)) (sym q)
+      ap (λ (k : ℕ). masked m (ascending k floor high s at)) k ∙ ap (masked m) (next (rising floor high) _ s at h) ∙ listed m v (ascending (left - 1) (v + 1) high) s e ∙ ap (λ (k : ℕ). masked k (ascending (left - 1) (v + 1) high s e)) (sym q)
 
-  pub gather-stop : {n : ℕ} → (left ≡ 0 → ⊥) → rising floor high s at ≡ refused n → masked m (climb left floor high s at) ≡ refused n
-  unfolding climb masked
+  pub gather-stop : {n : ℕ} → (left ≡ 0 → ⊥) → rising floor high s at ≡ refused n → masked m (ascending left floor high s at) ≡ refused n
+  unfolding ascending masked
   gather-stop {n} z h =
       let k : left ≡ suc (left - 1) = omega arith in
-      ap (λ (k : ℕ). masked m (climb k floor high s at)) k ∙ ap (masked m) (stops (rising floor high) _ s at h)
+      ap (λ (k : ℕ). masked m (ascending k floor high s at)) k ∙ ap (masked m) (stops (rising floor high) _ s at h)
 
 -- ---- a block
 
@@ -106,9 +106,9 @@ module _ (high : ℕ) (s : List ℕ) (at : ℕ) where
     unfolding block
     block-many z l = next number _ s at h ∙ pass 7 _ s e (ap not (ne-eqb k 0 z)) ∙ fail 6 _ s e (lt-leb k 8 l)
 
-    pub block-of : (k ≡ 0 → ⊥) → k ≤ 8 → block high s at ≡ masked 0 (climb k 0 high s e)
+    pub block-of : (k ≡ 0 → ⊥) → k ≤ 8 → block high s at ≡ masked 0 (ascending k 0 high s e)
     unfolding block
-    block-of z l = next number _ s at h ∙ pass 7 _ s e (ap not (ne-eqb k 0 z)) ∙ pass 6 _ s e (le-leb k 8 l) ∙ summed (climb k 0 high) s e
+    block-of z l = next number _ s at h ∙ pass 7 _ s e (ap not (ne-eqb k 0 z)) ∙ pass 6 _ s e (le-leb k 8 l) ∙ summed (ascending k 0 high) s e
 
   pub block-stops : {n : ℕ} → number s at ≡ refused n → block high s at ≡ refused n
   unfolding block
@@ -122,17 +122,17 @@ pub record Listed (high : ℕ) (s : List ℕ) (at m e : ℕ) : Type 0 where
   pub first : number s at ≡ got count mid
   pub some : count ≡ 0 → ⊥
   pub few : count ≤ 8
-  pub rest : climb count 0 high s mid ≡ got disks e
+  pub rest : ascending count 0 high s mid ≡ got disks e
   pub sum : maskOf disks ≡ m
 
 pub block-got : (high : ℕ) (s : List ℕ) (at m e : ℕ) → block high s at ≡ got m e → Listed high s at m e
 unfolding block
 block-got high s at m e h =
-    let rest : ℕ → Parser ℕ = λ k. climb k 0 high >>= λ ds. pure (maskOf ds) in
+    let rest : ℕ → Parser ℕ = λ k. ascending k 0 high >>= λ ds. pure (maskOf ds) in
     let f : Step (number s at) (λ k j. (require (not (eqb k 0)) 7 >> (require (leb k 8) 6 >> rest k)) s j) m e = bind-got number s at m e (λ k. require (not (eqb k 0)) 7 >> (require (leb k 8) 6 >> rest k)) h in
     let g : (not (eqb (f .found) 0) ≡ true) × ((require (leb (f .found) 8) 6 >> rest (f .found)) s (f .mid) ≡ got m e) = passed _ 7 _ s (f .mid) m e (f .last) in
     let i : (leb (f .found) 8 ≡ true) × (rest (f .found) s (f .mid) ≡ got m e) = passed _ 6 _ s (f .mid) m e (g .1) in
-    let j : Step (climb (f .found) 0 high s (f .mid)) (λ ds k. pure (maskOf ds) s k) m e = bind-got (climb (f .found) 0 high) s (f .mid) m e (λ ds. pure (maskOf ds)) (i .1) in
+    let j : Step (ascending (f .found) 0 high s (f .mid)) (λ ds k. pure (maskOf ds) s k) m e = bind-got (ascending (f .found) 0 high) s (f .mid) m e (λ ds. pure (maskOf ds)) (i .1) in
     let p : (maskOf (j .found) ≡ m) × (j .mid ≡ e) = pure-got (maskOf (j .found)) m s (j .mid) e (j .last) in
     record {
       count = f .found;

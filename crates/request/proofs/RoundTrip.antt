@@ -20,7 +20,7 @@ use Rattle.field.proofs.Read.{Reads, reads-bind, reads-then, reads-pure, reads-
 use Rattle.field.proofs.Spelt.{Spelt, spelt-join, spelt-whole, number-spelt, inside-spelt}
 use Rattle.field.proofs.Opened.{reads-opening, opening-spelt}
 use Rattle.field.specs.Lists.{All, Rises}
-use Rattle.field.proofs.Lists.{reads-times, reads-climb, times-spelt, climb-spelt}
+use Rattle.field.proofs.Lists.{reads-times, reads-ascending, times-spelt, ascending-spelt}
 use Rattle.request.specs.Disks.{maskOf, disksOf}
 use Rattle.request.specs.Request.{lastDisk, block, heading, requestSheet}
 use Rattle.request.specs.Draft.{blockBytes, headingBytes, requestBytes, requestDraft}
@@ -51,7 +51,7 @@ module _ (n : ℕ) (known : n ≡ 0 → ⊥) (within : n ≤ 64) where
       (reads-bind _ (reads-number (length (disksOf m)) (omega arith))
       (reads-tested (reads-require 7 (ap not (ne-eqb (length (disksOf m)) 0 some)))
       (reads-tested (reads-require 6 (le-leb (length (disksOf m)) 8 few))
-      (reads-checked _ (reads-climb (lastDisk n) (omega (arith, last-le n)) 0 (disksOf m) (disks-rise (lastDisk n) m (last-le n) top)) (reads-pure (maskOf (disksOf m)))))))
+      (reads-checked _ (reads-ascending (lastDisk n) (omega (arith, last-le n)) 0 (disksOf m) (disks-rise (lastDisk n) m (last-le n) top)) (reads-pure (maskOf (disksOf m)))))))
 
   reads-heading : (unit t q : ℕ) → unit < 2 ^ 32 → t < 2 ^ 32 → 0 < t → q ≤ 1024 → Reads (heading unit t n) (headingBytes unit t q) q
   unfolding heading headingBytes
@@ -77,7 +77,7 @@ module _ (s : List ℕ) (bytes : Bytes s) (n : ℕ) (known : n ≡ 0 → ⊥) (w
   block-spelt at m e h =
       let w : Listed (lastDisk n) s at m e = block-got (lastDisk n) s at m e h in
       let a : Spelt s at (w .mid) (encode (w .count)) × (w .count < 2 ^ 32) = number-spelt s at (w .count) (w .mid) bytes (w .first) in
-      let b : Spelt s (w .mid) e (spellAll encode (w .disks)) × (length (w .disks) ≡ w .count) × Rises 0 (lastDisk n) (w .disks) = climb-spelt (lastDisk n) s bytes (w .count) 0 (w .mid) (w .disks) e (a .0 .within) (w .rest) in
+      let b : Spelt s (w .mid) e (spellAll encode (w .disks)) × (length (w .disks) ≡ w .count) × Rises 0 (lastDisk n) (w .disks) = ascending-spelt (lastDisk n) s bytes (w .count) 0 (w .mid) (w .disks) e (a .0 .within) (w .rest) in
       let same : disksOf m ≡ w .disks = ap disksOf (sym (w .sum)) ∙ disks-mask (lastDisk n) (w .disks) (last-le n) (b .2) in
       let joined : Spelt s at e (encode (length (w .disks)) ++ spellAll encode (w .disks)) = subst (λ (k : ℕ). Spelt s at e (encode k ++ spellAll encode (w .disks))) (sym (b .1)) (spelt-join (a .0) (b .0)) in
       (subst (λ (ds : List ℕ). Spelt s at e (encode (length ds) ++ spellAll encode ds)) (sym same) joined, block-sendable n known within s at m e h)

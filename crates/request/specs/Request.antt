@@ -9,7 +9,7 @@ use mathlib.Core.List.{List}
 use lib.Dec.{eqb, leb, ltb}
 use Rattle.number.specs.Choice.{pick}
 use Rattle.field.specs.Sheet.{Parser, _>>=_, _>>_, pure, require, times}
-use Rattle.field.specs.Field.{number, opening, inside, climb, whole}
+use Rattle.field.specs.Field.{number, opening, inside, ascending, whole}
 use Rattle.request.specs.Disks.{maskOf}
 
 -- disks are 0 to N - 1; a number of copies has no bit above 63
@@ -22,7 +22,7 @@ block high = do
   k ← number
   require (not (eqb k 0)) 7
   require (leb k 8) 6
-  ds ← climb k 0 high
+  ds ← ascending k 0 high
   pure (maskOf ds)
 
 -- kind 2, the unit, its tenancy (no tenancy is 0), settings (N = 0 means none yet), Q

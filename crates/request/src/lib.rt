@@ -6,7 +6,7 @@ ghost use mathlib.Core.Path.{_≡_};
 ghost use Prim.Native.Nat.{ℕ, _+_, _^_, _≤_, _<_};
 ghost use lib.ListN.{length};
 ghost use Rattle.number.specs.Encode.{encode};
-ghost use Rattle.field.specs.Field.{climb, whole};
+ghost use Rattle.field.specs.Field.{ascending, whole};
 ghost use Rattle.field.specs.Put.{spellAll};
 ghost use Rattle.field.specs.Put.{Written as Wrote};
 ghost use Rattle.field.specs.Refusal.{numberOf};
@@ -52,7 +52,7 @@ fn last(disks: u32) -> u32
 // So many disk numbers, each above the one before it, put into m.
 fn gather(s: &[u8], at: usize, left: u32, floor: u32, high: u32, m: u64) -> Copies
     requires { ⌜ (high ≤ 63) × (m < 2 ^ floor) ⌝ }
-    ensures { λ r. ⌜ toldCopies r ≡ masked m (climb left floor high (now (s .entry)) at) ⌝ }
+    ensures { λ r. ⌜ toldCopies r ≡ masked m (ascending left floor high (now (s .entry)) at) ⌝ }
 {
     if left == 0 {
         return Copies::Got(m, at);
@@ -74,10 +74,10 @@ fn one_block(s: &[u8], at: usize, high: u32) -> Copies
     match field::any(s, at) {
         Field::Got(k, next) => {
             if k == 0 {
-                return Copies::Refused(Refusal::NoCopies);
+                return Copies::Refused(Refusal::NoCopy);
             }
             if 8 < k {
-                return Copies::Refused(Refusal::Range);
+                return Copies::Refused(Refusal::OutOfRange);
             }
             gather(s, next, k, 0, high, 0)
         }
@@ -160,14 +160,14 @@ fn size(copies: &[u64], disks: usize) -> Written
     while i < copies.len() {
         let m = copies[i];
         if m == 0 {
-            return Written::Refused(Refusal::NoCopies);
+            return Written::Refused(Refusal::NoCopy);
         }
         let bits = mask::count(m);
         if 8 < bits {
-            return Written::Refused(Refusal::Range);
+            return Written::Refused(Refusal::OutOfRange);
         }
         if mask::without(m, known) != 0 {
-            return Written::Refused(Refusal::Range);
+            return Written::Refused(Refusal::OutOfRange);
         }
         total += 1 + bits as usize;
         i += 1;
@@ -243,16 +243,16 @@ pub fn write(unit: u32, tenancy: u32, disks: u32, copies: &[u64], out: &mut [u8]
     ensures { λ r. ⌜ Sent (requestDraft unit tenancy disks (now (copies .entry))) (now (out .entry)) r (now (out .exit)) ⌝ }
 {
     if tenancy == 0 {
-        return Written::Refused(Refusal::Range);
+        return Written::Refused(Refusal::OutOfRange);
     }
     if disks == 0 {
-        return Written::Refused(Refusal::Range);
+        return Written::Refused(Refusal::OutOfRange);
     }
     if 64 < disks {
-        return Written::Refused(Refusal::Range);
+        return Written::Refused(Refusal::OutOfRange);
     }
     if 1024 < copies.len() {
-        return Written::Refused(Refusal::Range);
+        return Written::Refused(Refusal::OutOfRange);
     }
     match size(copies, disks as usize) {
         Written::Length(n) => send(unit, tenancy, copies, n, out),

@@ -29,7 +29,7 @@ use Rattle.settings.specs.declared.Table.{Table}
 use Rattle.settings.specs.Row.{disk, row, inRange, allInRange, rowBytes}
 use Rattle.settings.specs.Table.{padded, table, disksOf, costs, loads, delays}
 use Rattle.settings.specs.Sheet.{fields, settingsSheet}
-use Rattle.settings.specs.Draft.{rowsOf, headBytes, sheetBytes, even, settingsDraft}
+use Rattle.settings.specs.Draft.{rowsOf, headBytes, sheetBytes, equalLengths, settingsDraft}
 use Rattle.settings.proofs.Ranges.{InRange, in-range, range-in}
 use Rattle.settings.proofs.Rows.{length-rows}
 use Rattle.settings.proofs.Writing.{draft-either, draft-whole}
@@ -105,7 +105,7 @@ disks-table n rs h = take-at rs (replicate (64 - length rs) (disk 0 0 0)) n h
 
 -- a draft of rows that are in range is their sheet
 draft-rows : (unit t n : ℕ) (rs : List Row) → 0 < t → 1 ≤ n → n ≤ 64 → length rs ≡ n → allInRange rs ≡ true → settingsDraft unit t (costs (table n rs)) (loads (table n rs)) (delays (table n rs)) ≡ sheet (sheetBytes unit t rs)
-unfolding costs loads delays even
+unfolding costs loads delays equalLengths
 draft-rows unit t n rs rented some few count good =
     let cs : List ℕ = map (λ r. r .cost) rs in
     let ls : List ℕ = map (λ r. r .load) rs in

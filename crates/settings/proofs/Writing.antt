@@ -17,7 +17,7 @@ use Rattle.number.specs.Encode.{encode, widthOf}
 use Rattle.number.proofs.Choice.{pick-true, pick-false, pick-elim, either, both, paired, second-false}
 use Rattle.number.proofs.Encode.{width-one}
 use Rattle.field.specs.Put.{spellAll, openingBytes, Written}
-use Rattle.field.specs.declared.Refusal.the-variants.{Range, NoRoom}
+use Rattle.field.specs.declared.Refusal.the-variants.{OutOfRange, NoRoom}
 use Rattle.field.specs.declared.Written.the-variants.{Length, Refused}
 use Rattle.field.specs.Refusal.{numberOf}
 use Rattle.field.specs.Send.{sheet, none, Sent}
@@ -26,7 +26,7 @@ use Rattle.field.proofs.Opened.{opening-length}
 use Rattle.field.proofs.Sends.{sent-refused, sent-long, sent-fits}
 use Rattle.settings.specs.declared.Row.{Row}
 use Rattle.settings.specs.Row.{disk, allInRange, rowBytes}
-use Rattle.settings.specs.Draft.{rowsOf, headBytes, sheetBytes, even, settingsDraft}
+use Rattle.settings.specs.Draft.{rowsOf, headBytes, sheetBytes, equalLengths, settingsDraft}
 use Rattle.settings.specs.Parts.{rowsWidth, draftWidth}
 use Rattle.field.proofs.Spell.{spell-more}
 use Rattle.settings.proofs.Rows.{length-rows, rows-sized, rows-out}
@@ -71,7 +71,7 @@ sheet-length unit t rows h = omega (arith, length-append (headBytes unit t (leng
 
 module _ (unit t : ℕ) (cs ls ds : List ℕ) where
   -- tenancy 0, or lists of unequal length
-  pub draft-refused : (ltb 0 t && even cs ls ds) ≡ false → 0 ≡ draftWidth (settingsDraft unit t cs ls ds)
+  pub draft-refused : (ltb 0 t && equalLengths cs ls ds) ≡ false → 0 ≡ draftWidth (settingsDraft unit t cs ls ds)
   unfolding settingsDraft draftWidth
   draft-refused f = ap draftWidth (sym (pick-false _ _ f))
 
@@ -81,7 +81,7 @@ module _ (unit t : ℕ) (cs ls ds : List ℕ) where
   draft-out f = pick-elim (λ d. 0 ≡ draftWidth d) _ _ _ (λ _. ap draftWidth (sym (pick-false _ _ f))) (λ _. refl)
 
   -- all is well
-  pub draft-whole : (ltb 0 t && even cs ls ds) ≡ true → (leb 1 (length cs) && (leb (length cs) 64 && allInRange (rowsOf cs ls ds))) ≡ true → settingsDraft unit t cs ls ds ≡ sheet (sheetBytes unit t (rowsOf cs ls ds))
+  pub draft-whole : (ltb 0 t && equalLengths cs ls ds) ≡ true → (leb 1 (length cs) && (leb (length cs) 64 && allInRange (rowsOf cs ls ds))) ≡ true → settingsDraft unit t cs ls ds ≡ sheet (sheetBytes unit t (rowsOf cs ls ds))
   unfolding settingsDraft
   draft-whole p q = pick-true _ _ p ∙ pick-true _ _ q
 
@@ -95,8 +95,8 @@ module _ (unit t : ℕ) (cs ls ds : List ℕ) where
     pub few : length cs ≤ 64
     pub good : allInRange (rowsOf cs ls ds) ≡ true
 
-  sheeted : (ltb 0 t && even cs ls ds) ≡ true → (leb 1 (length cs) && (leb (length cs) 64 && allInRange (rowsOf cs ls ds))) ≡ true → Sheeted
-  unfolding even
+  sheeted : (ltb 0 t && equalLengths cs ls ds) ≡ true → (leb 1 (length cs) && (leb (length cs) 64 && allInRange (rowsOf cs ls ds))) ≡ true → Sheeted
+  unfolding equalLengths
   sheeted p q =
       let a : (ltb 0 t ≡ true) × ((eqb (length ls) (length cs) && eqb (length ds) (length cs)) ≡ true) = both _ _ p in
       let b : (eqb (length ls) (length cs) ≡ true) × (eqb (length ds) (length cs) ≡ true) = both _ _ (a .1) in
@@ -116,7 +116,7 @@ module _ (unit t : ℕ) (cs ls ds : List ℕ) where
   pub draft-either : {X : Type 0} → (settingsDraft unit t cs ls ds ≡ none 6 → X) → (Sheeted → X) → X
   unfolding settingsDraft
   draft-either f g =
-      either (ltb 0 t && even cs ls ds)
+      either (ltb 0 t && equalLengths cs ls ds)
       (λ p.
       either (leb 1 (length cs) && (leb (length cs) 64 && allInRange (rowsOf cs ls ds)))
       (λ q. g (sheeted p q))
@@ -138,14 +138,14 @@ module _ (unit t : ℕ) (cs ls ds : List ℕ) where
   -- ---- the tests of the writer, one by one
 
   pub width-tenancy : t ≡ 0 → 0 ≡ draftWidth (settingsDraft unit t cs ls ds)
-  width-tenancy z = draft-refused (ap (λ b. b && even cs ls ds) (le-ltb 0 t (omega arith)))
+  width-tenancy z = draft-refused (ap (λ b. b && equalLengths cs ls ds) (le-ltb 0 t (omega arith)))
 
   pub width-loads : (length ls ≡ length cs → ⊥) → 0 ≡ draftWidth (settingsDraft unit t cs ls ds)
-  unfolding even
+  unfolding equalLengths
   width-loads z = draft-refused (second-false (ltb 0 t) (ap (λ b. b && eqb (length ds) (length cs)) (ne-eqb _ _ z)))
 
   pub width-delays : (length ds ≡ length cs → ⊥) → 0 ≡ draftWidth (settingsDraft unit t cs ls ds)
-  unfolding even
+  unfolding equalLengths
   width-delays z = draft-refused (second-false (ltb 0 t) (second-false (eqb (length ls) (length cs)) (ne-eqb _ _ z)))
 
   pub width-few : length cs < 1 → 0 ≡ draftWidth (settingsDraft unit t cs ls ds)
@@ -160,7 +160,7 @@ module _ (unit t : ℕ) (cs ls ds : List ℕ) where
         draft-out (second-false (leb 1 (length cs)) (second-false (leb (length cs) 64) (rows-out (rowsOf cs ls ds) w (omega (arith, length-rows cs ls ds p q)) e z)))
 
     pub width-sheet : {a b : ℕ} → (t ≡ 0 → ⊥) → length cs ≤ 64 → (w ≡ 0 → ⊥) → a ≡ widthOf unit → b ≡ widthOf t → 2 + a + b + w ≡ draftWidth (settingsDraft unit t cs ls ds)
-    unfolding even draftWidth
+    unfolding equalLengths draftWidth
     width-sheet {a} {b} r few z f g =
         let k : (allInRange (rowsOf cs ls ds) ≡ true) × (w ≡ length (spellAll rowBytes (rowsOf cs ls ds))) = rows-sized (rowsOf cs ls ds) w e z in
         let s : settingsDraft unit t cs ls ds ≡ sheet (sheetBytes unit t (rowsOf cs ls ds)) =
@@ -170,9 +170,9 @@ module _ (unit t : ℕ) (cs ls ds : List ℕ) where
   -- ---- the three ways in which the writer ends
 
   module _ {w : ℕ} (e : w ≡ draftWidth (settingsDraft unit t cs ls ds)) where
-    pub write-none : (out : List ℕ) → w ≡ 0 → Sent (settingsDraft unit t cs ls ds) out (Refused Range) out
+    pub write-none : (out : List ℕ) → w ≡ 0 → Sent (settingsDraft unit t cs ls ds) out (Refused OutOfRange) out
     unfolding numberOf
-    write-none out z = subst (λ d. Sent d out (Refused Range) out) (sym (draft-none (sym e ∙ z))) (sent-refused Range out)
+    write-none out z = subst (λ d. Sent d out (Refused OutOfRange) out) (sym (draft-none (sym e ∙ z))) (sent-refused OutOfRange out)
 
     module _ (z : w ≡ 0 → ⊥) where
       pub write-sheet : Sheeted

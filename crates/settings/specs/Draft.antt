@@ -27,13 +27,13 @@ unfoldable pub sheetBytes : ℕ → ℕ → List Row → List ℕ
 sheetBytes unit t rows = headBytes unit t (length rows) ++ spellAll rowBytes rows
 
 -- whether the lists are of one length
-unfoldable pub even : List ℕ → List ℕ → List ℕ → Bool
-even cs ls ds = eqb (length ls) (length cs) && eqb (length ds) (length cs)
+unfoldable pub equalLengths : List ℕ → List ℕ → List ℕ → Bool
+equalLengths cs ls ds = eqb (length ls) (length cs) && eqb (length ds) (length cs)
 
 -- 6 for tenancy 0, lists of unequal length, N outside 1 to 64, a cost, load or delay out of range
 unfoldable pub settingsDraft : ℕ → ℕ → List ℕ → List ℕ → List ℕ → Draft
 settingsDraft unit t cs ls ds =
-    pick (ltb 0 t && even cs ls ds)
+    pick (ltb 0 t && equalLengths cs ls ds)
     (pick (leb 1 (length cs) && (leb (length cs) 64 && allInRange (rowsOf cs ls ds)))
     (sheet (sheetBytes unit t (rowsOf cs ls ds)))
     (none 6))

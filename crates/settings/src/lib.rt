@@ -250,7 +250,7 @@ pub fn write(
 {
     let length = sheet_width(unit, tenancy, costs, loads, delays);
     if length == 0 {
-        return Written::Refused(Refusal::Range);
+        return Written::Refused(Refusal::OutOfRange);
     }
     if out.len() < length {
         return Written::Refused(Refusal::NoRoom);

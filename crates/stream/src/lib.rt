@@ -27,10 +27,10 @@ pub fn sheet(s: &[u8], at: usize) -> Span
     match field::any(s, at) {
         Field::Got(n, next) => {
             if 9229 < n {
-                return Span::Refused(Refusal::Range);
+                return Span::Refused(Refusal::OutOfRange);
             }
             if s.len() - next < n as usize {
-                return Span::Refused(Refusal::Ends);
+                return Span::Refused(Refusal::SheetEnds);
             }
             Span::Part(next, next + n as usize)
         }
@@ -97,7 +97,7 @@ fn follow(s: &[u8], call: u32, at: usize) -> Call
     if call == 4 {
         return give_back(s, at);
     }
-    Call::Refused(Refusal::Kind)
+    Call::Refused(Refusal::WrongKind)
 }
 
 // One call. Where it is refused with 1, more bytes may complete it.

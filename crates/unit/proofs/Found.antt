@@ -19,7 +19,7 @@ use Rattle.model.specs.Assignment.{Valid}
 use Rattle.model.specs.Count.{any, sum, count, bit}
 use Rattle.model.specs.Shortfall.{size}
 use Rattle.model.specs.Time.{members}
-use Rattle.model.specs.Plan.{Plan as Optimal}
+use Rattle.model.specs.Plan.{Optimal}
 use Rattle.model.proofs.Earliest.{time-positive}
 use Rattle.model.proofs.Existence.{plan-short}
 use Rattle.model.proofs.Plan.{no-blocks-plan}

@@ -12,7 +12,7 @@ use lib.Dec.{eqb}
 use lib.ListN.{length, getD}
 use Rattle.mask.specs.Has.{has}
 use Rattle.model.specs.Case.{Case, base}
-use Rattle.model.specs.Plan.{Plan as Optimal}
+use Rattle.model.specs.Plan.{Optimal}
 use Rattle.field.specs.declared.Written.{Written}
 use Rattle.field.specs.Send.{toldWritten, Sent}
 use Rattle.field.specs.Sheet.{Out, got, refused}

@@ -124,7 +124,7 @@ impl Unit {
             }
         }
         Done {
-            answer: Answer::Refused(Refusal::NotTenant),
+            answer: Answer::Refused(Refusal::NotTheTenant),
             unit: self,
         }
     }

@@ -9,7 +9,7 @@ use lib.ListN.{getD}
 use Rattle.model.specs.Case.{Case, base}
 use Rattle.model.specs.Count.{any}
 use Rattle.model.specs.Figures.{isOn, asked}
-use Rattle.model.specs.Plan.{Plan}
+use Rattle.model.specs.Plan.{Optimal}
 use Rattle.engine.specs.Planned.{listed, Planned}
 use Rattle.engine.specs.Spelled.{spelled}
 use Rattle.vectors.proofs.Figures.{join, same-copies, swap, copies-p5, P5}
@@ -60,8 +60,8 @@ plan-p5 : Planned copies costs starts blank blank (2 ∷ 0 ∷ 0 ∷ []) (0 ∷ 
 plan-p5 =
     record {
       plan =
-          subst (λ (m : Case). Plan m 10 (λ b. getD disks b 0) (listed short 1)) same-case
-          (subst (λ (S : ℕ → Bool). Plan (asked copies-p5) 10 (λ b. getD disks b 0) S) (fun-ext same-set) P5);
+          subst (λ (m : Case). Optimal m 10 (λ b. getD disks b 0) (listed short 1)) same-case
+          (subst (λ (S : ℕ → Bool). Optimal (asked copies-p5) 10 (λ b. getD disks b 0) S) (fun-ext same-set) P5);
       set = record { few = omega arith; below = below; rising = λ i j h l. absurd (omega arith); short-rest = rest; short-long = refl };
       disks-rest = none;
       disks-long = refl;

@@ -7,7 +7,7 @@ use native.Mathlib.Omega.{arith}
 use lib.ListN.{getD, replicate}
 use Rattle.model.specs.Case.{Case, base}
 use Rattle.model.specs.Figures.{asked}
-use Rattle.model.specs.Plan.{Plan as Optimal}
+use Rattle.model.specs.Plan.{Optimal}
 use Rattle.field.specs.declared.Written.the-variants.{Length}
 use Rattle.field.specs.Lists.{All, Rises}
 use Rattle.settings.specs.Table.{table, disksOf, costs, loads, delays}

@@ -1,7 +1,7 @@
 -- Fields of a sheet: the refusal numbers, what each reader refuses, and a field put into a lent buffer.
 use mathlib.Core.Path.{_≡_, refl}
 use mathlib.Core.List.{[], _∷_, map}
-use Rattle.field.specs.declared.Refusal.the-variants.{Ends, Malformed, Kind, Unit, Tenancy, Range, NoCopies, NotRising, Extra, NoSettings, NoRoom, Rented, NotAbove, NotTenant}
+use Rattle.field.specs.declared.Refusal.the-variants.{SheetEnds, BadNumber, WrongKind, WrongUnit, WrongTenancy, OutOfRange, NoCopy, NotRising, BytesFollow, NoSettings, NoRoom, Rented, NotAbove, NotTheTenant}
 use Rattle.field.specs.Field.{number, exactly, tenancy, inside, rising, end}
 use Rattle.field.specs.Put.{Put}
 use Rattle.field.specs.Refusal.{numberOf}
@@ -13,7 +13,7 @@ use Rattle.vectors.proofs.Opened.{field-opened}
 
 -- document 01's table of refusal numbers, in its order
 refusal-numbers :
-    map numberOf (Ends ∷ Malformed ∷ Kind ∷ Unit ∷ Tenancy ∷ Range ∷ NoCopies ∷ NotRising ∷ Extra ∷ NoSettings ∷ NoRoom ∷ Rented ∷ NotAbove ∷ NotTenant ∷ [])
+    map numberOf (SheetEnds ∷ BadNumber ∷ WrongKind ∷ WrongUnit ∷ WrongTenancy ∷ OutOfRange ∷ NoCopy ∷ NotRising ∷ BytesFollow ∷ NoSettings ∷ NoRoom ∷ Rented ∷ NotAbove ∷ NotTheTenant ∷ [])
     ≡ 1 ∷ 2 ∷ 3 ∷ 4 ∷ 5 ∷ 6 ∷ 7 ∷ 8 ∷ 9 ∷ 10 ∷ 11 ∷ 12 ∷ 13 ∷ 14 ∷ []
 unfolding field-opened
 refusal-numbers = refl

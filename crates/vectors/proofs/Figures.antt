@@ -15,7 +15,7 @@ use Rattle.mask.specs.Has.{has}
 use Rattle.mask.proofs.Bits.{has-or, has-pow}
 use Rattle.mask.proofs.Has.{has-zero}
 use Rattle.model.specs.Figures.{isOn, asked, Holds, AllHold, table}
-use Rattle.model.specs.Plan.{Plan}
+use Rattle.model.specs.Plan.{Optimal}
 use Rattle.model.proofs.Figures.{figures}
 use Rattle.number.proofs.Choice.{either}
 use Rattle.unit.specs.Request.{listed}
@@ -48,7 +48,7 @@ same-set (x ∷ xs) b = ap₂ (λ (p q : Bool). p || q) (swap x b) (same-set xs 
 abbrev pub copies-p5 : List (List ℕ)
 copies-p5 = (2 ∷ []) ∷ (0 ∷ []) ∷ (0 ∷ []) ∷ []
 
-pub P5 : Plan (asked copies-p5) 10 (λ b. getD (2 ∷ 0 ∷ 0 ∷ []) b 0) (isOn (0 ∷ []))
+pub P5 : Optimal (asked copies-p5) 10 (λ b. getD (2 ∷ 0 ∷ 0 ∷ []) b 0) (isOn (0 ∷ []))
 unfolding AllHold Holds table
 P5 = figures .1 .1 .1 .1 .0 .plan
 
@@ -56,6 +56,6 @@ P5 = figures .1 .1 .1 .1 .0 .plan
 abbrev pub copies-p6 : List (List ℕ)
 copies-p6 = (0 ∷ 1 ∷ []) ∷ (0 ∷ 1 ∷ []) ∷ (0 ∷ 1 ∷ []) ∷ (1 ∷ 2 ∷ []) ∷ []
 
-pub P6 : Plan (asked copies-p6) 9 (λ b. getD (0 ∷ 0 ∷ 1 ∷ 1 ∷ []) b 0) (isOn (0 ∷ 1 ∷ 2 ∷ 3 ∷ []))
+pub P6 : Optimal (asked copies-p6) 9 (λ b. getD (0 ∷ 0 ∷ 1 ∷ 1 ∷ []) b 0) (isOn (0 ∷ 1 ∷ 2 ∷ 3 ∷ []))
 unfolding AllHold Holds table
 P6 = figures .1 .1 .1 .1 .1 .0 .plan

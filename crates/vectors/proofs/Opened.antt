@@ -3,11 +3,11 @@ use Rattle.number.specs.Choice.{pick}
 use Rattle.number.specs.Decode.{under, more, decode}
 use Rattle.number.specs.Encode.{encodeBy, encode, widthOf, fits, written, putFirst}
 use Rattle.field.specs.Sheet.{andThen, _>>=_, _>>_, pure, require, times}
-use Rattle.field.specs.Field.{taken, number, exactly, tenancy, inside, rising, climb, end, whole, opening}
+use Rattle.field.specs.Field.{taken, number, exactly, tenancy, inside, rising, ascending, end, whole, opening}
 use Rattle.field.specs.Put.{spellAll, paste, hasRoom, openingBytes}
 use Rattle.field.specs.Refusal.{numberOf}
 use Rattle.field.specs.Send.{toldWritten, answerTo, leftBy}
-use Rattle.settings.specs.Draft.{rowsOf, headBytes, sheetBytes, even, settingsDraft}
+use Rattle.settings.specs.Draft.{rowsOf, headBytes, sheetBytes, equalLengths, settingsDraft}
 use Rattle.settings.specs.Row.{row, inRange, allInRange, rowBytes}
 use Rattle.settings.specs.Sheet.{fields, settingsSheet}
 use Rattle.settings.specs.Table.{padded, table, noTable}
@@ -45,13 +45,13 @@ number-opened = Unit
 
 unfoldable pub field-opened : Type 0
 unfolding
-    number-opened andThen _>>=_ _>>_ pure require times taken number exactly tenancy inside rising climb end whole opening
+    number-opened andThen _>>=_ _>>_ pure require times taken number exactly tenancy inside rising ascending end whole opening
     spellAll paste hasRoom openingBytes numberOf toldWritten answerTo leftBy
 field-opened = Unit
 
 unfoldable pub settings-opened : Type 0
 unfolding
-    field-opened rowsOf headBytes sheetBytes even settingsDraft row inRange allInRange rowBytes fields settingsSheet
+    field-opened rowsOf headBytes sheetBytes equalLengths settingsDraft row inRange allInRange rowBytes fields settingsSheet
     padded table noTable tableOf
 settings-opened = Unit
 

@@ -8,32 +8,14 @@ use Rattle.console.proofs.Benching.{asks-shown, asks-refused}
 use Rattle.console.proofs.ask.Statement.{statement}
 use Rattle.console.proofs.ask.Tie as tie
 
-tenancy-requires : tie.Need-tenancy-requires
-tenancy-requires c κs = search needs
-
-slice-aggregate-request : tie.Need-slice-aggregate-request
-slice-aggregate-request c = search needs
-
 request-requires : tie.Need-request-requires
 request-requires c κs = c .before .before .before .pre .sound
-
-enum-known-answer : tie.Need-enum-known-answer
-enum-known-answer c = search needs
 
 array-share-prefix-sheet : tie.Need-array-share-prefix-sheet
 array-share-prefix-sheet c = omega (arith, answered-within _ _ _ _ _ (c .before .before .before .before .request .ensures) _ (c .before .answer .given .1))
 
 slice-aggregate-show : tie.Need-slice-aggregate-show
 slice-aggregate-show c = sym (length-take-le _ _ (omega (arith, answered-within _ _ _ _ _ (c .before .before .before .before .before .request .ensures) _ (c .before .before .answer .given .1))))
-
-show-requires : tie.Need-show-requires
-show-requires c κs = search needs
-
-enum-known-answer-2 : tie.Need-enum-known-answer-2
-enum-known-answer-2 c = search needs
-
-refuse-requires : tie.Need-refuse-requires
-refuse-requires c κs = search needs
 
 returns : tie.Need-returns
 returns c = asks-shown _ _ _ _ _ (c .before .before .before .before .before .before .before .request .ensures) _ _ (c .before .before .before .before .answer .given .1) (c .before .before .before .before .before .before .before .before .before .before .before .pre .tenancy) (c .before .before .before .before .before .before .before .before .before .tenancy .ensures) (c .show .ensures)
@@ -45,14 +27,14 @@ pub ask-spec : {M : Type 1} → statement M
 ask-spec =
     tie.close
     (tie.spec
-    tenancy-requires
-    slice-aggregate-request
+    (λ c κs. search needs)
+    (λ c. search needs)
     request-requires
-    enum-known-answer
+    (λ c. search needs)
     array-share-prefix-sheet
     slice-aggregate-show
-    show-requires
-    enum-known-answer-2
-    refuse-requires
+    (λ c κs. search needs)
+    (λ c. search needs)
+    (λ c κs. search needs)
     returns
     returns-2)

@@ -1,19 +1,13 @@
 -- `close`: the request's sheet, the end of the input, and then the request.
 use borrow.Author.Needs.{needs}
 use native.Mathlib.Omega.{arith}
-use Rattle.field.specs.declared.Refusal.the-variants.{Extra}
+use Rattle.field.specs.declared.Refusal.the-variants.{BytesFollow}
 use Rattle.console.proofs.Benching.{close-asks, close-extra, close-stops, tells-refused}
 use Rattle.stream.proofs.Framing.{spans-part, spans-refused}
 use Rattle.stream.specs.Frame.{part}
 use Rattle.field.specs.Refusal.{numberOf}
 use Rattle.console.proofs.close.Statement.{statement}
 use Rattle.console.proofs.close.Tie as tie
-
-sheet-requires : tie.Need-sheet-requires
-sheet-requires c κs = search needs
-
-enum-known-from : tie.Need-enum-known-from
-enum-known-from c = search needs
 
 sub-ask : tie.Need-sub-ask
 sub-ask c = omega (arith, spans-part (c .before .before .before .before .sheet .ensures) (c .before .before .from .given .1) .1 .order)
@@ -24,25 +18,13 @@ part-ask-start c = spans-part (c .before .before .before .before .sheet .ensures
 part-ask-end : tie.Need-part-ask-end
 part-ask-end c = spans-part (c .before .before .before .before .sheet .ensures) (c .before .before .from .given .1) .1 .end
 
-ask-requires : tie.Need-ask-requires
-ask-requires c κs = search needs
-
-refuse-requires : tie.Need-refuse-requires
-refuse-requires c κs = search needs
-
-enum-known-e : tie.Need-enum-known-e
-enum-known-e c = search needs
-
-refuse-requires-2 : tie.Need-refuse-requires-2
-refuse-requires-2 c κs = search needs
-
 returns : tie.Need-returns
 unfolding part
 returns c = close-asks _ _ _ _ _ (spans-part (c .before .before .before .before .before .before .before .sheet .ensures) (c .before .before .before .before .before .from .given .1) .0) (c .before .before .before .if1 .taken) (c .ask .ensures)
 
 returns-2 : tie.Need-returns-2
 unfolding numberOf
-returns-2 c = tells-refused Extra (close-extra _ _ _ _ _ (spans-part (c .before .before .before .before .before .before .sheet .ensures) (c .before .before .before .before .from .given .1) .0) (c .before .before .if1 .left)) (c .refuse .ensures)
+returns-2 c = tells-refused BytesFollow (close-extra _ _ _ _ _ (spans-part (c .before .before .before .before .before .before .sheet .ensures) (c .before .before .before .before .from .given .1) .0) (c .before .before .if1 .left)) (c .refuse .ensures)
 
 returns-3 : tie.Need-returns-3
 returns-3 c = tells-refused _ (close-stops _ _ _ _ (spans-refused _ (c .before .before .before .before .before .sheet .ensures) (c .before .before .before .e .given .1))) (c .refuse2 .ensures)
@@ -51,15 +33,15 @@ pub close-spec : {M : Type 1} → statement M
 close-spec =
     tie.close
     (tie.spec
-    sheet-requires
-    enum-known-from
+    (λ c κs. search needs)
+    (λ c. search needs)
     sub-ask
     part-ask-start
     part-ask-end
-    ask-requires
-    refuse-requires
-    enum-known-e
-    refuse-requires-2
+    (λ c κs. search needs)
+    (λ c κs. search needs)
+    (λ c. search needs)
+    (λ c κs. search needs)
     returns
     returns-2
     returns-3)

@@ -7,23 +7,11 @@ use mathlib.Core.Path.{ap, _∙_}
 use Rattle.console.proofs.hire.Statement.{statement}
 use Rattle.console.proofs.hire.Tie as tie
 
-new-requires : tie.Need-new-requires
-new-requires c κs = search needs
-
-rent-requires : tie.Need-rent-requires
-rent-requires c κs = search needs
-
 enum-told : tie.Need-enum-told
 enum-told c = search needs
 
 settle-requires : tie.Need-settle-requires
 settle-requires c κs = let-rent (c .before .before .before .before .before .before .before .args .number) (c .before .before .before .before .before .before .before .args .tenancy) _ (c .before .before .before .before .rent .ensures ∙ ap (λ (u : Unit). rent u (c .before .before .before .before .before .before .before .args .tenancy)) (c .before .before .before .before .before .new .ensures)) (c .before .before .enum-told .given .1)
-
-enum-known-verdict : tie.Need-enum-known-verdict
-enum-known-verdict c = search needs
-
-refuse-requires : tie.Need-refuse-requires
-refuse-requires c κs = search needs
 
 returns : tie.Need-returns
 returns c = tells-same (hire-taken (c .before .before .before .before .before .before .before .before .args .number) (c .before .before .before .before .before .before .before .before .args .tenancy) _ _ _ (c .before .before .before .before .before .rent .ensures ∙ ap (λ (u : Unit). rent u (c .before .before .before .before .before .before .before .before .args .tenancy)) (c .before .before .before .before .before .before .new .ensures)) (c .before .before .before .enum-told .given .1)) (c .settle .ensures)
@@ -35,11 +23,11 @@ pub hire-spec : {M : Type 1} → statement M
 hire-spec =
     tie.close
     (tie.spec
-    new-requires
-    rent-requires
+    (λ c κs. search needs)
+    (λ c κs. search needs)
     enum-told
     settle-requires
-    enum-known-verdict
-    refuse-requires
+    (λ c. search needs)
+    (λ c κs. search needs)
     returns
     returns-2)

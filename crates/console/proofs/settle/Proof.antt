@@ -6,12 +6,6 @@ use Rattle.stream.proofs.Framing.{spans-part, spans-refused}
 use Rattle.console.proofs.settle.Statement.{statement}
 use Rattle.console.proofs.settle.Tie as tie
 
-sheet-requires : tie.Need-sheet-requires
-sheet-requires c κs = search needs
-
-enum-known-from : tie.Need-enum-known-from
-enum-known-from c = search needs
-
 sub-settings : tie.Need-sub-settings
 sub-settings c = omega (arith, spans-part (c .before .before .before .sheet .ensures) (c .before .from .given .1) .1 .order)
 
@@ -21,26 +15,11 @@ part-settings-start c = spans-part (c .before .before .before .sheet .ensures) (
 part-settings-end : tie.Need-part-settings-end
 part-settings-end c = spans-part (c .before .before .before .sheet .ensures) (c .before .from .given .1) .1 .end
 
-settings-requires : tie.Need-settings-requires
-settings-requires c κs = search needs
-
 enum-told : tie.Need-enum-told
 enum-told c = search needs
 
 close-requires : tie.Need-close-requires
 close-requires c κs = let-set _ _ (c .before .before .before .before .before .before .before .before .before .before .before .pre) (c .before .before .before .before .settings .ensures)
-
-enum-known-verdict : tie.Need-enum-known-verdict
-enum-known-verdict c = search needs
-
-refuse-requires : tie.Need-refuse-requires
-refuse-requires c κs = search needs
-
-enum-known-e : tie.Need-enum-known-e
-enum-known-e c = search needs
-
-refuse-requires-2 : tie.Need-refuse-requires-2
-refuse-requires-2 c κs = search needs
 
 returns : tie.Need-returns
 returns c = tells-same (settle-taken _ _ _ _ _ (spans-part (c .before .before .before .before .before .before .before .before .before .before .sheet .ensures) (c .before .before .before .before .before .before .before .before .from .given .1) .0) _ (c .before .before .before .before .before .settings .ensures) (c .before .before .before .enum-told .given .1)) (c .close .ensures)
@@ -55,18 +34,18 @@ pub settle-spec : {M : Type 1} → statement M
 settle-spec =
     tie.close
     (tie.spec
-    sheet-requires
-    enum-known-from
+    (λ c κs. search needs)
+    (λ c. search needs)
     sub-settings
     part-settings-start
     part-settings-end
-    settings-requires
+    (λ c κs. search needs)
     enum-told
     close-requires
-    enum-known-verdict
-    refuse-requires
-    enum-known-e
-    refuse-requires-2
+    (λ c. search needs)
+    (λ c κs. search needs)
+    (λ c. search needs)
+    (λ c κs. search needs)
     returns
     returns-2
     returns-3)

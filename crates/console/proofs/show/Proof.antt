@@ -9,18 +9,6 @@ use Rattle.line.specs.Line.{planLine}
 use Rattle.console.proofs.show.Statement.{statement}
 use Rattle.console.proofs.show.Tie as tie
 
-slice-aggregate-read : tie.Need-slice-aggregate-read
-slice-aggregate-read c = search needs
-
-slice-aggregate-read-2 : tie.Need-slice-aggregate-read-2
-slice-aggregate-read-2 c = search needs
-
-read-requires : tie.Need-read-requires
-read-requires c κs = search needs
-
-enum-known-h : tie.Need-enum-known-h
-enum-known-h c = search needs
-
 array-share-prefix-disks : tie.Need-array-share-prefix-disks
 array-share-prefix-disks c = back-disks _ _ _ _ _ _ _ _ (received-as (c .before .before .before .before .before .read .ensures) (c .before .h .given .1))
 
@@ -33,15 +21,6 @@ array-share-prefix-short c = back-short _ _ _ _ _ _ _ _ (received-as (c .before 
 slice-aggregate-plan-line-2 : tie.Need-slice-aggregate-plan-line-2
 slice-aggregate-plan-line-2 c = sym (length-take-le _ _ (back-short _ _ _ _ _ _ _ _ (received-as (c .before .before .before .before .before .before .before .read .ensures) (c .before .before .before .h .given .1))))
 
-plan-line-requires : tie.Need-plan-line-requires
-plan-line-requires c κs = search needs
-
-enum-known-e : tie.Need-enum-known-e
-enum-known-e c = search needs
-
-refuse-requires : tie.Need-refuse-requires
-refuse-requires c κs = search needs
-
 returns : tie.Need-returns
 returns c = λ p r l q. printed-same (ap (planLine _ _) (back-plan _ _ _ _ _ _ _ _ (received-as (c .before .before .before .before .before .before .before .before .before .read .ensures) (c .before .before .before .before .before .h .given .1)) (c .before .before .before .before .before .before .before .before .before .before .before .before .before .fits .unit .fits) (c .before .before .before .before .before .before .before .before .before .before .before .before .before .fits .tenancy .fits) p r l q)) (c .plan-line .ensures)
 
@@ -52,16 +31,16 @@ pub show-spec : {M : Type 1} → statement M
 show-spec =
     tie.close
     (tie.spec
-    slice-aggregate-read
-    slice-aggregate-read-2
-    read-requires
-    enum-known-h
+    (λ c. search needs)
+    (λ c. search needs)
+    (λ c κs. search needs)
+    (λ c. search needs)
     array-share-prefix-disks
     slice-aggregate-plan-line
     array-share-prefix-short
     slice-aggregate-plan-line-2
-    plan-line-requires
-    enum-known-e
-    refuse-requires
+    (λ c κs. search needs)
+    (λ c. search needs)
+    (λ c κs. search needs)
     returns
     returns-2)

@@ -5,12 +5,6 @@ use Rattle.desk.proofs.Packed.{small-head, packed-head, packed-not}
 use Rattle.desk.proofs.pack_plan.Statement.{statement}
 use Rattle.desk.proofs.pack_plan.Tie as tie
 
-enum-known-a : tie.Need-enum-known-a
-enum-known-a c = search needs
-
-cast-time : tie.Need-cast-time
-cast-time c = search needs
-
 mul-result : tie.Need-mul-result
 mul-result c = omega (arith, small-head (c .before .before .before .before .pre) (c .before .before .a .given .1))
 
@@ -26,15 +20,6 @@ mul-result-3 c = omega (arith, small-head (c .before .before .before .before .pr
 add-result-2 : tie.Need-add-result-2
 add-result-2 c = omega (arith, small-head (c .before .before .before .before .pre) (c .before .before .a .given .1))
 
-enum-known-a-2 : tie.Need-enum-known-a-2
-enum-known-a-2 c = search needs
-
-number-of-requires : tie.Need-number-of-requires
-number-of-requires c κs = search needs
-
-cast-result : tie.Need-cast-result
-cast-result c = search needs
-
 returns : tie.Need-returns
 returns c = packed-head (c .before .before .a .given .1)
 
@@ -45,15 +30,15 @@ pub pack-plan-spec : {M : Type 1} → statement M
 pack-plan-spec =
     tie.close
     (tie.spec
-    enum-known-a
-    cast-time
+    (λ c. search needs)
+    (λ c. search needs)
     mul-result
     mul-result-2
     add-result
     mul-result-3
     add-result-2
-    enum-known-a-2
-    number-of-requires
-    cast-result
+    (λ c. search needs)
+    (λ c κs. search needs)
+    (λ c. search needs)
     returns
     returns-2)

@@ -5,20 +5,8 @@ use Rattle.desk.proofs.Packed.{short-length, packed-length, packed-refu
 use Rattle.desk.proofs.pack_written.Statement.{statement}
 use Rattle.desk.proofs.pack_written.Tie as tie
 
-enum-known-w : tie.Need-enum-known-w
-enum-known-w c = search needs
-
 mul-result : tie.Need-mul-result
 mul-result c = omega (arith, short-length (c .before .before .before .pre) (c .before .w .given .1))
-
-enum-known-w-2 : tie.Need-enum-known-w-2
-enum-known-w-2 c = search needs
-
-number-of-requires : tie.Need-number-of-requires
-number-of-requires c κs = search needs
-
-cast-result : tie.Need-cast-result
-cast-result c = search needs
 
 returns : tie.Need-returns
 returns c = packed-length (c .before .w .given .1)
@@ -29,4 +17,4 @@ returns-2 c = packed-refusal (c .before .before .w2 .given .1) (c .number-of .en
 pub pack-written-spec : {M : Type 1} → statement M
 pack-written-spec =
     tie.close
-    (tie.spec enum-known-w mul-result enum-known-w-2 number-of-requires cast-result returns returns-2)
+    (tie.spec (λ c. search needs) mul-result (λ c. search needs) (λ c κs. search needs) (λ c. search needs) returns returns-2)

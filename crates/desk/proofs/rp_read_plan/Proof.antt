@@ -10,20 +10,8 @@ use mathlib.Core.Path.{sym}
 use Rattle.desk.proofs.rp_read_plan.Statement.{statement}
 use Rattle.desk.proofs.rp_read_plan.Tie as tie
 
-room-requires : tie.Need-room-requires
-room-requires c κs = search needs
-
-array-borrow-prefix-blocks : tie.Need-array-borrow-prefix-blocks
-array-borrow-prefix-blocks c = search needs
-
 slice-aggregate-read : tie.Need-slice-aggregate-read
 slice-aggregate-read c = sym (length-take-le _ _ (c .before .before .room .ensures .within))
-
-read-requires : tie.Need-read-requires
-read-requires c κs = search needs
-
-enum-known-h : tie.Need-enum-known-h
-enum-known-h c = search needs
 
 slice-aggregate-put-pairs : tie.Need-slice-aggregate-put-pairs
 slice-aggregate-put-pairs c =
@@ -51,21 +39,6 @@ pack-plan-requires c κs =
     plans-small
     (accepted bytes (at-read .read .ensures) (c .before .before .before .before .before .before .h .given .1))
 
-enum-known-e : tie.Need-enum-known-e
-enum-known-e c = search needs
-
-number-of-requires : tie.Need-number-of-requires
-number-of-requires c κs = search needs
-
-cast-result : tie.Need-cast-result
-cast-result c = search needs
-
-same-length : tie.Need-same-length
-same-length c = search needs
-
-same-length-2 : tie.Need-same-length-2
-same-length-2 c = search needs
-
 returns : tie.Need-returns
 unfolding Bytes
 returns c =
@@ -78,12 +51,6 @@ returns c =
     (c .before .before .before .before .before .before .before .h .given .1) (room-part (replicate 1024 0) (at-room .room .ensures) (at-room .room .ensures .within))
     (take-at _ _ _ (at-read .read .kept .1 .1 .1 .1 .0))
     (c .pack-plan .ensures _) (c .before .before .before .put-pairs .ensures)
-
-same-length-3 : tie.Need-same-length-3
-same-length-3 c = search needs
-
-same-length-4 : tie.Need-same-length-4
-same-length-4 c = search needs
 
 returns-2 : tie.Need-returns-2
 unfolding Bytes
@@ -99,20 +66,20 @@ pub rp-read-plan-spec : {M : Type 1} → statement M
 rp-read-plan-spec =
     tie.close
     (tie.spec
-    room-requires
-    array-borrow-prefix-blocks
+    (λ c κs. search needs)
+    (λ c. search needs)
     slice-aggregate-read
-    read-requires
-    enum-known-h
+    (λ c κs. search needs)
+    (λ c. search needs)
     slice-aggregate-put-pairs
     put-pairs-requires
     pack-plan-requires
-    enum-known-e
-    number-of-requires
-    cast-result
-    same-length
-    same-length-2
+    (λ c. search needs)
+    (λ c κs. search needs)
+    (λ c. search needs)
+    (λ c. search needs)
+    (λ c. search needs)
     returns
-    same-length-3
-    same-length-4
+    (λ c. search needs)
+    (λ c. search needs)
     returns-2)

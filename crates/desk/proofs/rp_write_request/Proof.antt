@@ -9,9 +9,6 @@ use mathlib.Core.Path.{sym, ap, _∙_}
 use Rattle.desk.proofs.rp_write_request.Statement.{statement}
 use Rattle.desk.proofs.rp_write_request.Tie as tie
 
-usable-requires : tie.Need-usable-requires
-usable-requires c κs = search needs
-
 returns : tie.Need-returns
 returns c = wrote-refused _ (copies-unusable _ _ _ _ (sym (c .before .usable .ensures) ∙ not-true _ (c .if1 .taken)))
 
@@ -24,14 +21,8 @@ array-share-prefix-blocks c = part-within 8 _ _ _ (c .eights .ensures)
 slice-aggregate-write : tie.Need-slice-aggregate-write
 slice-aggregate-write c = part-count 8 _ _ _ (c .before .eights .ensures)
 
-write-requires : tie.Need-write-requires
-write-requires c κs = search needs
-
 pack-written-requires : tie.Need-pack-written-requires
 pack-written-requires c κs = short-sent _ _ _ _ (c .before .before .write .ensures) (request-short _ _ _ _)
-
-same-length : tie.Need-same-length
-same-length c = search needs
 
 returns-2 : tie.Need-returns-2
 returns-2 c = wrote-sent (request-usable _ _ _ _ (sym (c .before .before .before .before .before .before .before .before .usable .ensures) ∙ not-false _ (c .before .before .before .before .before .before .before .if1 .left)) ∙ ap (requestDraft _ _ _) (sym (part-numbers 8 _ _ _ (c .before .before .before .before .before .before .eights .ensures)))) (c .before .before .before .write .ensures) (c .pack-written .ensures)
@@ -40,12 +31,12 @@ pub rp-write-request-spec : {M : Type 1} → statement M
 rp-write-request-spec =
     tie.close
     (tie.spec
-    usable-requires
+    (λ c κs. search needs)
     returns
     eights-requires
     array-share-prefix-blocks
     slice-aggregate-write
-    write-requires
+    (λ c κs. search needs)
     pack-written-requires
-    same-length
+    (λ c. search needs)
     returns-2)

@@ -7,20 +7,11 @@ use mathlib.Core.Path.{sym, _∙_}
 use Rattle.desk.proofs.rp_write_settings.Statement.{statement}
 use Rattle.desk.proofs.rp_write_settings.Tie as tie
 
-usable-requires : tie.Need-usable-requires
-usable-requires c κs = search needs
-
 returns : tie.Need-returns
 returns c = wrote-refused _ (costs-unusable _ _ _ _ _ (sym (c .before .usable .ensures) ∙ not-true _ (c .if1 .taken)))
 
-usable-requires-2 : tie.Need-usable-requires-2
-usable-requires-2 c κs = search needs
-
 returns-2 : tie.Need-returns-2
 returns-2 c = wrote-refused _ (loads-unusable _ _ _ _ _ (sym (c .before .before .before .usable .ensures) ∙ not-false _ (c .before .before .if1 .left)) (sym (c .before .usable2 .ensures) ∙ not-true _ (c .if2 .taken)))
-
-usable-requires-3 : tie.Need-usable-requires-3
-usable-requires-3 c κs = search needs
 
 returns-3 : tie.Need-returns-3
 returns-3 c = wrote-refused _ (delays-unusable _ _ _ _ _ (sym (c .before .before .before .before .before .usable .ensures) ∙ not-false _ (c .before .before .before .before .if1 .left)) (sym (c .before .before .before .usable2 .ensures) ∙ not-false _ (c .before .before .if2 .left)) (sym (c .before .usable3 .ensures) ∙ not-true _ (c .if3 .taken)))
@@ -31,9 +22,6 @@ send-settings-requires c κs = (is-usable 4 64 _ (sym (c .before .before .before
 pack-written-requires : tie.Need-pack-written-requires
 pack-written-requires c κs = short-sent _ _ _ _ (c .before .before .send-settings .ensures) (settings-short _ _ _ _ _)
 
-same-length : tie.Need-same-length
-same-length c = search needs
-
 returns-4 : tie.Need-returns-4
 returns-4 c = wrote-sent (settings-usable _ _ _ _ _ (sym (c .before .before .before .before .before .before .before .before .before .before .usable .ensures) ∙ not-false _ (c .before .before .before .before .before .before .before .before .before .if1 .left)) (sym (c .before .before .before .before .before .before .before .before .usable2 .ensures) ∙ not-false _ (c .before .before .before .before .before .before .before .if2 .left)) (sym (c .before .before .before .before .before .before .usable3 .ensures) ∙ not-false _ (c .before .before .before .before .before .if3 .left))) (c .before .before .before .send-settings .ensures) (c .pack-written .ensures)
 
@@ -41,13 +29,13 @@ pub rp-write-settings-spec : {M : Type 1} → statement M
 rp-write-settings-spec =
     tie.close
     (tie.spec
-    usable-requires
+    (λ c κs. search needs)
     returns
-    usable-requires-2
+    (λ c κs. search needs)
     returns-2
-    usable-requires-3
+    (λ c κs. search needs)
     returns-3
     send-settings-requires
     pack-written-requires
-    same-length
+    (λ c. search needs)
     returns-4)

@@ -4,17 +4,11 @@ use Rattle.desk.proofs.Tests.{usable-broken, usable-whole}
 use Rattle.desk.proofs.usable.Statement.{statement}
 use Rattle.desk.proofs.usable.Tie as tie
 
-rem-if1 : tie.Need-rem-if1
-rem-if1 c = search needs
-
 returns : tie.Need-returns
 returns c = usable-broken _ _ _ (c .if1 .taken)
-
-div-result : tie.Need-div-result
-div-result c = search needs
 
 returns-2 : tie.Need-returns-2
 returns-2 c = usable-whole _ _ _ (c .if1 .left)
 
 pub usable-spec : {M : Type 1} → statement M
-usable-spec = tie.close (tie.spec rem-if1 returns div-result returns-2)
+usable-spec = tie.close (tie.spec (λ c. search needs) returns (λ c. search needs) returns-2)

@@ -17,30 +17,12 @@ returns : tie.Need-returns
 unfolding told numberOf
 returns c = sym (number-past _ _ (c .if1 .taken))
 
-sub-read : tie.Need-sub-read
-sub-read c = search needs
-
-part-read-start : tie.Need-part-read-start
-part-read-start c = search needs
-
-part-read-end : tie.Need-part-read-end
-part-read-end c = search needs
-
-read-requires : tie.Need-read-requires
-read-requires c κs = search needs
-
-enum-known-v : tie.Need-enum-known-v
-enum-known-v c = search needs
-
 add-t13 : tie.Need-add-t13
 unfolding told-number
 add-t13 c = omega (arith, decode-within _ _ _ (sym (c .before .before .before .read .ensures) ∙ ap told-number (c .before .v .given .1)), length-take (length (c .before .before .before .before .before .before .before .args .s .now) - c .before .before .before .before .before .before .before .args .at) (drop (c .before .before .before .before .before .before .before .args .at) (c .before .before .before .before .before .before .before .args .s .now)))
 
 enum-told : tie.Need-enum-told
 enum-told c = search needs
-
-enum-told-2 : tie.Need-enum-told-2
-enum-told-2 c = search needs
 
 returns-2 : tie.Need-returns-2
 unfolding told told-number taken
@@ -59,14 +41,14 @@ any-spec =
     tie.close
     (tie.spec
     returns
-    sub-read
-    part-read-start
-    part-read-end
-    read-requires
-    enum-known-v
+    (λ c. search needs)
+    (λ c. search needs)
+    (λ c. search needs)
+    (λ c κs. search needs)
+    (λ c. search needs)
     add-t13
     enum-told
-    enum-told-2
+    (λ c. search needs)
     returns-2
     returns-3
     returns-4)

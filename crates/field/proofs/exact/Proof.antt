@@ -6,15 +6,6 @@ use mathlib.Core.Path.{sym}
 use Rattle.field.proofs.exact.Statement.{statement}
 use Rattle.field.proofs.exact.Tie as tie
 
-any-requires : tie.Need-any-requires
-any-requires c κs = search needs
-
-enum-known-v : tie.Need-enum-known-v
-enum-known-v c = search needs
-
-enum-known-e : tie.Need-enum-known-e
-enum-known-e c = search needs
-
 returns : tie.Need-returns
 unfolding told
 returns c = sym (exactly-got _ _ _ _ (told-got (c .before .before .before .before .any .ensures) (c .before .before .v .given .1)) _ _ (c .if1 .taken))
@@ -29,4 +20,4 @@ returns-3 c = sym (exactly-stops _ _ _ (told-refused (c .before .before .before 
 
 pub exact-spec : {M : Type 1} → statement M
 exact-spec =
-    tie.close (tie.spec any-requires enum-known-v enum-known-e returns returns-2 returns-3)
+    tie.close (tie.spec (λ c κs. search needs) (λ c. search needs) (λ c. search needs) returns returns-2 returns-3)

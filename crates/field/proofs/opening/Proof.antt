@@ -9,27 +9,6 @@ use Rattle.field.specs.Field.{opening}
 use Rattle.field.proofs.opening.Statement.{statement}
 use Rattle.field.proofs.opening.Tie as tie
 
-exact-requires : tie.Need-exact-requires
-exact-requires c κs = search needs
-
-enum-known-at : tie.Need-enum-known-at
-enum-known-at c = search needs
-
-exact-requires-2 : tie.Need-exact-requires-2
-exact-requires-2 c κs = search needs
-
-enum-known-next : tie.Need-enum-known-next
-enum-known-next c = search needs
-
-tenant-requires : tie.Need-tenant-requires
-tenant-requires c κs = search needs
-
-enum-known-e : tie.Need-enum-known-e
-enum-known-e c = search needs
-
-enum-known-e-2 : tie.Need-enum-known-e-2
-enum-known-e-2 c = search needs
-
 returns : tie.Need-returns
 unfolding opening numberOf
 returns c = c .tenant .ensures ∙ sym (then _ _ _ _ (told-got (c .before .before .before .before .before .before .before .before .exact .ensures) (c .before .before .before .before .before .before .at .given .1)) ∙ then _ _ _ _ (told-got (c .before .before .before .before .exact2 .ensures) (c .before .before .next .given .1)))
@@ -46,13 +25,13 @@ pub opening-spec : {M : Type 1} → statement M
 opening-spec =
     tie.close
     (tie.spec
-    exact-requires
-    enum-known-at
-    exact-requires-2
-    enum-known-next
-    tenant-requires
-    enum-known-e
-    enum-known-e-2
+    (λ c κs. search needs)
+    (λ c. search needs)
+    (λ c κs. search needs)
+    (λ c. search needs)
+    (λ c κs. search needs)
+    (λ c. search needs)
+    (λ c. search needs)
     returns
     returns-2
     returns-3)

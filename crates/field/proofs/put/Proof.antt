@@ -8,23 +8,8 @@ use Rattle.field.proofs.put.Tie as tie
 returns : tie.Need-returns
 returns c = put-past _ _ _ (c .if1 .taken)
 
-sub-write : tie.Need-sub-write
-sub-write c = search needs
-
-part-write-start : tie.Need-part-write-start
-part-write-start c = search needs
-
-part-write-end : tie.Need-part-write-end
-part-write-end c = search needs
-
-write-requires : tie.Need-write-requires
-write-requires c κs = search needs
-
 add-result : tie.Need-add-result
 add-result c = omega (arith, wrote-fits _ _ _ _ (c .before .before .write .ensures))
-
-same-length : tie.Need-same-length
-same-length c = search needs
 
 returns-2 : tie.Need-returns-2
 returns-2 c = put-of _ _ _ _ _ (omega arith) (c .before .before .write .ensures)
@@ -34,10 +19,10 @@ put-spec =
     tie.close
     (tie.spec
     returns
-    sub-write
-    part-write-start
-    part-write-end
-    write-requires
+    (λ c. search needs)
+    (λ c. search needs)
+    (λ c. search needs)
+    (λ c κs. search needs)
     add-result
-    same-length
+    (λ c. search needs)
     returns-2)

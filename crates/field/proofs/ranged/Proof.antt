@@ -7,12 +7,6 @@ use mathlib.Core.Path.{sym}
 use Rattle.field.proofs.ranged.Statement.{statement}
 use Rattle.field.proofs.ranged.Tie as tie
 
-any-requires : tie.Need-any-requires
-any-requires c κs = search needs
-
-enum-known-v : tie.Need-enum-known-v
-enum-known-v c = search needs
-
 returns : tie.Need-returns
 unfolding told numberOf
 returns c = sym (inside-below _ _ _ _ (told-got (c .before .before .before .before .any .ensures) (c .before .before .v .given .1)) _ _ (c .if1 .taken))
@@ -20,9 +14,6 @@ returns c = sym (inside-below _ _ _ _ (told-got (c .before .before .before .befo
 returns-2 : tie.Need-returns-2
 unfolding told numberOf
 returns-2 c = sym (inside-above _ _ _ _ (told-got (c .before .before .before .before .before .any .ensures) (c .before .before .before .v .given .1)) _ _ (c .before .if1 .left) (c .if2 .taken))
-
-enum-known-e : tie.Need-enum-known-e
-enum-known-e c = search needs
 
 returns-3 : tie.Need-returns-3
 unfolding told
@@ -35,4 +26,4 @@ returns-4 c = sym (inside-stops _ _ _ (told-refused (c .before .before .before .
 pub ranged-spec : {M : Type 1} → statement M
 ranged-spec =
     tie.close
-    (tie.spec any-requires enum-known-v returns returns-2 enum-known-e returns-3 returns-4)
+    (tie.spec (λ c κs. search needs) (λ c. search needs) returns returns-2 (λ c. search needs) returns-3 returns-4)

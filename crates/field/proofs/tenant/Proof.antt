@@ -7,18 +7,9 @@ use mathlib.Core.Path.{sym}
 use Rattle.field.proofs.tenant.Statement.{statement}
 use Rattle.field.proofs.tenant.Tie as tie
 
-any-requires : tie.Need-any-requires
-any-requires c κs = search needs
-
-enum-known-v : tie.Need-enum-known-v
-enum-known-v c = search needs
-
 returns : tie.Need-returns
 unfolding told
 returns c = sym (tenancy-got _ _ _ _ (told-got (c .before .before .before .before .before .any .ensures) (c .before .before .before .v .given .1)) _ (c .before .if1 .taken) (c .if2 .taken))
-
-enum-known-e : tie.Need-enum-known-e
-enum-known-e c = search needs
 
 returns-2 : tie.Need-returns-2
 unfolding told numberOf
@@ -35,4 +26,4 @@ returns-4 c = sym (tenancy-stops _ _ _ (told-refused (c .before .before .before 
 pub tenant-spec : {M : Type 1} → statement M
 tenant-spec =
     tie.close
-    (tie.spec any-requires enum-known-v returns enum-known-e returns-2 returns-3 returns-4)
+    (tie.spec (λ c κs. search needs) (λ c. search needs) returns (λ c. search needs) returns-2 returns-3 returns-4)

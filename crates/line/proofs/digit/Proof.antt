@@ -5,12 +5,6 @@ use Rattle.line.proofs.Digits.{digit-low, digit-high}
 use Rattle.line.proofs.digit.Statement.{statement}
 use Rattle.line.proofs.digit.Tie as tie
 
-add-result : tie.Need-add-result
-add-result c = search needs
-
-add-result-2 : tie.Need-add-result-2
-add-result-2 c = search needs
-
 returns : tie.Need-returns
 returns c = sym (digit-low _ (c .if1 .taken))
 
@@ -18,4 +12,4 @@ returns-2 : tie.Need-returns-2
 returns-2 c = sym (digit-high _ (c .if1 .left))
 
 pub digit-spec : {M : Type 1} → statement M
-digit-spec = tie.close (tie.spec add-result add-result-2 returns returns-2)
+digit-spec = tie.close (tie.spec (λ c. search needs) (λ c. search needs) returns returns-2)

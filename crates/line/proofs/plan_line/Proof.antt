@@ -11,19 +11,10 @@ returns c = many-disks _ _ _ _ (c .if1 .taken)
 returns-2 : tie.Need-returns-2
 returns-2 c = many-blocks _ _ _ _ (c .if2 .taken)
 
-cast-put-head : tie.Need-cast-put-head
-cast-put-head c = search needs
-
-put-head-requires : tie.Need-put-head-requires
-put-head-requires c κs = search needs
-
-put-lists-requires : tie.Need-put-lists-requires
-put-lists-requires c κs = search needs
-
 returns-3 : tie.Need-returns-3
 returns-3 c = plan-printed _ _ _ _ (c .before .before .before .before .before .if1 .left) (c .before .before .before .before .if2 .left) (omega arith) (c .before .before .put-head .ensures) (c .put-lists .ensures)
 
 pub plan-line-spec : {M : Type 1} → statement M
 plan-line-spec =
     tie.close
-    (tie.spec returns returns-2 cast-put-head put-head-requires put-lists-requires returns-3)
+    (tie.spec returns returns-2 (λ c. search needs) (λ c κs. search needs) (λ c κs. search needs) returns-3)

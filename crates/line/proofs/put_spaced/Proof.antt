@@ -5,15 +5,6 @@ use Rattle.line.proofs.Adding.{adds-join}
 use Rattle.line.proofs.put_spaced.Statement.{statement}
 use Rattle.line.proofs.put_spaced.Tie as tie
 
-put-byte-requires : tie.Need-put-byte-requires
-put-byte-requires c κs = search needs
-
-put-decimal-requires : tie.Need-put-decimal-requires
-put-decimal-requires c κs = search needs
-
-same-length : tie.Need-same-length
-same-length c = search needs
-
 returns : tie.Need-returns
 unfolding spaced
 returns c = adds-join (c .before .before .before .before .before .before .put-byte .ensures) (c .before .before .put-decimal .ensures)
@@ -22,7 +13,7 @@ pub put-spaced-spec : {M : Type 1} → statement M
 put-spaced-spec =
     tie.close
     (tie.spec
-    put-byte-requires
-    put-decimal-requires
-    same-length
+    (λ c κs. search needs)
+    (λ c κs. search needs)
+    (λ c. search needs)
     returns)

@@ -8,14 +8,8 @@ use mathlib.Core.Path.{ap}
 use Rattle.line.proofs.refuse.Statement.{statement}
 use Rattle.line.proofs.refuse.Tie as tie
 
-number-of-requires : tie.Need-number-of-requires
-number-of-requires c κs = search needs
-
-say-requires : tie.Need-say-requires
-say-requires c κs = search needs
-
 returns : tie.Need-returns
 returns c = printed-same (ap (λ (n : ℕ). spoken (Refused n)) (c .before .before .number-of .ensures)) (c .say .ensures)
 
 pub refuse-spec : {M : Type 1} → statement M
-refuse-spec = tie.close (tie.spec number-of-requires say-requires returns)
+refuse-spec = tie.close (tie.spec (λ c κs. search needs) (λ c κs. search needs) returns)

@@ -10,48 +10,6 @@ use Rattle.line.proofs.say.Tie as tie
 enum-told : tie.Need-enum-told
 enum-told c = search needs
 
-slice-aggregate-plain : tie.Need-slice-aggregate-plain
-slice-aggregate-plain c = search needs
-
-plain-requires : tie.Need-plain-requires
-plain-requires c κs = search needs
-
-enum-told-2 : tie.Need-enum-told-2
-enum-told-2 c = search needs
-
-slice-aggregate-plain-2 : tie.Need-slice-aggregate-plain-2
-slice-aggregate-plain-2 c = search needs
-
-plain-requires-2 : tie.Need-plain-requires-2
-plain-requires-2 c κs = search needs
-
-enum-told-3 : tie.Need-enum-told-3
-enum-told-3 c = search needs
-
-slice-aggregate-plain-3 : tie.Need-slice-aggregate-plain-3
-slice-aggregate-plain-3 c = search needs
-
-plain-requires-3 : tie.Need-plain-requires-3
-plain-requires-3 c κs = search needs
-
-enum-known-w : tie.Need-enum-known-w
-enum-known-w c = search needs
-
-slice-aggregate-numbered : tie.Need-slice-aggregate-numbered
-slice-aggregate-numbered c = search needs
-
-numbered-requires : tie.Need-numbered-requires
-numbered-requires c κs = search needs
-
-enum-known-w-2 : tie.Need-enum-known-w-2
-enum-known-w-2 c = search needs
-
-slice-aggregate-numbered-2 : tie.Need-slice-aggregate-numbered-2
-slice-aggregate-numbered-2 c = search needs
-
-numbered-requires-2 : tie.Need-numbered-requires-2
-numbered-requires-2 c κs = search needs
-
 returns : tie.Need-returns
 unfolding spoken word-rented
 returns c = said-word word-rented (ap spoken (c .before .before .before .enum-told .given .1)) (omega arith) (omega arith) (c .plain .ensures)
@@ -77,20 +35,20 @@ say-spec =
     tie.close
     (tie.spec
     enum-told
-    slice-aggregate-plain
-    plain-requires
-    enum-told-2
-    slice-aggregate-plain-2
-    plain-requires-2
-    enum-told-3
-    slice-aggregate-plain-3
-    plain-requires-3
-    enum-known-w
-    slice-aggregate-numbered
-    numbered-requires
-    enum-known-w-2
-    slice-aggregate-numbered-2
-    numbered-requires-2
+    (λ c. search needs)
+    (λ c κs. search needs)
+    (λ c. search needs)
+    (λ c. search needs)
+    (λ c κs. search needs)
+    (λ c. search needs)
+    (λ c. search needs)
+    (λ c κs. search needs)
+    (λ c. search needs)
+    (λ c. search needs)
+    (λ c κs. search needs)
+    (λ c. search needs)
+    (λ c. search needs)
+    (λ c κs. search needs)
     returns
     returns-2
     returns-3

@@ -8,18 +8,6 @@ use Rattle.line.proofs.sheet_line.Tie as tie
 returns : tie.Need-returns
 returns c = long-sheet _ _ (c .if1 .taken)
 
-slice-aggregate-put-text : tie.Need-slice-aggregate-put-text
-slice-aggregate-put-text c = search needs
-
-put-text-requires : tie.Need-put-text-requires
-put-text-requires c κs = search needs
-
-put-hex-requires : tie.Need-put-hex-requires
-put-hex-requires c κs = search needs
-
-put-byte-requires : tie.Need-put-byte-requires
-put-byte-requires c κs = search needs
-
 returns-2 : tie.Need-returns-2
 returns-2 c = sheet-printed _ _ (c .before .before .before .before .before .before .before .if1 .left) (omega arith) (c .before .before .before .before .put-text .ensures) (c .before .before .put-hex .ensures) (c .put-byte .ensures)
 
@@ -28,8 +16,8 @@ sheet-line-spec =
     tie.close
     (tie.spec
     returns
-    slice-aggregate-put-text
-    put-text-requires
-    put-hex-requires
-    put-byte-requires
+    (λ c. search needs)
+    (λ c κs. search needs)
+    (λ c κs. search needs)
+    (λ c κs. search needs)
     returns-2)

@@ -13,30 +13,12 @@ returns : tie.Need-returns
 unfolding told
 returns c = sym (decode-none _ (c .if1 .taken))
 
-shared-slice-read-b : tie.Need-shared-slice-read-b
-shared-slice-read-b c = search needs
-
 cast-b : tie.Need-cast-b
 cast-b c = omega (arith, c .shared-slice-known2 .given 0)
 
 returns-2 : tie.Need-returns-2
 unfolding told
 returns-2 c = sym (decode-one _ (omega arith) (c .if2 .taken))
-
-sub-groups : tie.Need-sub-groups
-sub-groups c = search needs
-
-part-groups-start : tie.Need-part-groups-start
-part-groups-start c = search needs
-
-part-groups-end : tie.Need-part-groups-end
-part-groups-end c = search needs
-
-groups-requires : tie.Need-groups-requires
-groups-requires c κs = search needs
-
-enum-known-v : tie.Need-enum-known-v
-enum-known-v c = search needs
 
 mul-t15 : tie.Need-mul-t15
 unfolding told
@@ -52,9 +34,6 @@ add-t17 c = omega (arith, more-small _ _ _ _ (omega arith) (sym (c .before .befo
 
 enum-told : tie.Need-enum-told
 enum-told c = search needs
-
-enum-told-2 : tie.Need-enum-told-2
-enum-told-2 c = search needs
 
 returns-3 : tie.Need-returns-3
 unfolding told under
@@ -73,19 +52,19 @@ read-spec =
     tie.close
     (tie.spec
     returns
-    shared-slice-read-b
+    (λ c. search needs)
     cast-b
     returns-2
-    sub-groups
-    part-groups-start
-    part-groups-end
-    groups-requires
-    enum-known-v
+    (λ c. search needs)
+    (λ c. search needs)
+    (λ c. search needs)
+    (λ c κs. search needs)
+    (λ c. search needs)
     mul-t15
     add-t16
     add-t17
     enum-told
-    enum-told-2
+    (λ c. search needs)
     returns-3
     returns-4
     returns-5)

@@ -8,42 +8,9 @@ use Rattle.number.specs.Bytes.{Bytes}
 use Rattle.plan.proofs.check.Statement.{statement}
 use Rattle.plan.proofs.check.Tie as tie
 
-opening-requires : tie.Need-opening-requires
-opening-requires c κs = search needs
-
-enum-known-at : tie.Need-enum-known-at
-enum-known-at c = search needs
-
-ranged-requires : tie.Need-ranged-requires
-ranged-requires c κs = search needs
-
-enum-known-q : tie.Need-enum-known-q
-enum-known-q c = search needs
-
-if-any-requires : tie.Need-if-any-requires
-if-any-requires c κs = search needs
-
-if-any-requires-2 : tie.Need-if-any-requires-2
-if-any-requires-2 c κs = search needs
-
-ranged-requires-2 : tie.Need-ranged-requires-2
-ranged-requires-2 c κs = search needs
-
-enum-known-r : tie.Need-enum-known-r
-enum-known-r c = search needs
-
 lists-requires : tie.Need-lists-requires
 unfolding Bytes
 lists-requires c κs = inside-spelt _ _ _ _ (λ i. c .before .before .before .before .before .before .before .before .before .before .before .before .before .before .shared-slice-known .given i .fits) 0 1024 (told-got (c .before .before .before .before .before .before .before .before .before .ranged .ensures) (c .before .before .before .before .before .before .before .q .given .1)) .2
-
-enum-known-e : tie.Need-enum-known-e
-enum-known-e c = search needs
-
-enum-known-e-2 : tie.Need-enum-known-e-2
-enum-known-e-2 c = search needs
-
-enum-known-e-3 : tie.Need-enum-known-e-3
-enum-known-e-3 c = search needs
 
 returns : tie.Need-returns
 returns c = check-lists _ _ _ (told-got (c .before .before .before .before .before .before .before .before .before .before .before .before .before .before .opening .ensures) (c .before .before .before .before .before .before .before .before .before .before .before .before .at .given .1)) (told-got (c .before .before .before .before .before .before .before .before .before .before .ranged .ensures) (c .before .before .before .before .before .before .before .before .q .given .1)) _ (bounds-time _ _ _ _ _ (c .before .before .before .before .before .before .if-any .ensures) (c .before .before .before .before .before .if-any2 .ensures) (told-got (c .before .before .before .before .ranged2 .ensures) (c .before .before .r .given .1))) (c .lists .ensures)
@@ -64,18 +31,18 @@ pub check-spec : {M : Type 1} → statement M
 check-spec =
     tie.close
     (tie.spec
-    opening-requires
-    enum-known-at
-    ranged-requires
-    enum-known-q
-    if-any-requires
-    if-any-requires-2
-    ranged-requires-2
-    enum-known-r
+    (λ c κs. search needs)
+    (λ c. search needs)
+    (λ c κs. search needs)
+    (λ c. search needs)
+    (λ c κs. search needs)
+    (λ c κs. search needs)
+    (λ c κs. search needs)
+    (λ c. search needs)
     lists-requires
-    enum-known-e
-    enum-known-e-2
-    enum-known-e-3
+    (λ c. search needs)
+    (λ c. search needs)
+    (λ c. search needs)
     returns
     returns-2
     returns-3

@@ -10,36 +10,12 @@ use mathlib.Core.Path.{sym, ap, _∙_}
 use Rattle.plan.proofs.lists.Statement.{statement}
 use Rattle.plan.proofs.lists.Tie as tie
 
-past-disks-requires : tie.Need-past-disks-requires
-past-disks-requires c κs = search needs
-
-enum-known-p : tie.Need-enum-known-p
-enum-known-p c = search needs
-
-if-any-requires : tie.Need-if-any-requires
-if-any-requires c κs = search needs
-
-ranged-requires : tie.Need-ranged-requires
-ranged-requires c κs = search needs
-
-enum-known-m : tie.Need-enum-known-m
-enum-known-m c = search needs
-
 short-last-requires : tie.Need-short-last-requires
 unfolding Bytes
 short-last-requires c κs = (inside-spelt _ _ _ _ (λ i. c .before .before .before .before .before .before .before .before .before .shared-slice-known .given i .fits) _ _ (told-got (c .before .before .before .ranged .ensures) (c .before .m .given .1)) .2, c .before .before .before .before .before .before .before .before .before .before .pre)
 
 enum-told : tie.Need-enum-told
 enum-told c = search needs
-
-enum-known-e : tie.Need-enum-known-e
-enum-known-e c = search needs
-
-enum-known-e-2 : tie.Need-enum-known-e-2
-enum-known-e-2 c = search needs
-
-enum-known-e-3 : tie.Need-enum-known-e-3
-enum-known-e-3 c = search needs
 
 returns : tie.Need-returns
 unfolding told
@@ -61,16 +37,16 @@ pub lists-spec : {M : Type 1} → statement M
 lists-spec =
     tie.close
     (tie.spec
-    past-disks-requires
-    enum-known-p
-    if-any-requires
-    ranged-requires
-    enum-known-m
+    (λ c κs. search needs)
+    (λ c. search needs)
+    (λ c κs. search needs)
+    (λ c κs. search needs)
+    (λ c. search needs)
     short-last-requires
     enum-told
-    enum-known-e
-    enum-known-e-2
-    enum-known-e-3
+    (λ c. search needs)
+    (λ c. search needs)
+    (λ c. search needs)
     returns
     returns-2
     returns-3

@@ -9,18 +9,9 @@ put-opening-requires : tie.Need-put-opening-requires
 put-opening-requires c κs = let a = c .before .before .args in
     opening-room 3 (a .unit) (a .tenancy) (a .q) (a .time) (a .out .now) (c .before .before .pre)
 
-put-requires : tie.Need-put-requires
-put-requires c κs = search needs
-
-put-requires-2 : tie.Need-put-requires-2
-put-requires-2 c κs = search needs
-
-same-length : tie.Need-same-length
-same-length c = search needs
-
 returns : tie.Need-returns
 returns c = adds-put (adds-put (adds-opening _ _ _ (c .before .before .before .before .before .before .before .before .before .before .put-opening .ensures)) (c .before .before .before .before .before .before .put .ensures)) (c .before .before .put2 .ensures)
 
 pub put-head-spec : {M : Type 1} → statement M
 put-head-spec =
-    tie.close (tie.spec put-opening-requires put-requires put-requires-2 same-length returns)
+    tie.close (tie.spec put-opening-requires (λ c κs. search needs) (λ c κs. search needs) (λ c. search needs) returns)

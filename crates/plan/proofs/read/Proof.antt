@@ -4,23 +4,8 @@ use Rattle.plan.proofs.Receiving.{found-few, found-refused, found-whole
 use Rattle.plan.proofs.read.Statement.{statement}
 use Rattle.plan.proofs.read.Tie as tie
 
-check-requires : tie.Need-check-requires
-check-requires c κs = search needs
-
-enum-known-f : tie.Need-enum-known-f
-enum-known-f c = search needs
-
 fill-requires : tie.Need-fill-requires
 fill-requires c κs = found-few _ _ _ (c .before .before .before .before .before .check .ensures) _ (c .before .before .before .f .given .1)
-
-enum-known-e : tie.Need-enum-known-e
-enum-known-e c = search needs
-
-same-length : tie.Need-same-length
-same-length c = search needs
-
-same-length-2 : tie.Need-same-length-2
-same-length-2 c = search needs
 
 returns : tie.Need-returns
 returns c = found-whole _ _ _ _ _ _ _ _ _ _ (c .before .before .before .before .before .before .before .before .before .before .check .ensures) (c .before .before .before .before .before .before .before .before .f .given .1) (c .before .before .before .before .fill .ensures)
@@ -32,11 +17,11 @@ pub read-spec : {M : Type 1} → statement M
 read-spec =
     tie.close
     (tie.spec
-    check-requires
-    enum-known-f
+    (λ c κs. search needs)
+    (λ c. search needs)
     fill-requires
-    enum-known-e
-    same-length
-    same-length-2
+    (λ c. search needs)
+    (λ c. search needs)
+    (λ c. search needs)
     returns
     returns-2)

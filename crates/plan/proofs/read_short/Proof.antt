@@ -3,22 +3,22 @@ use borrow.Author.Needs.{needs}
 use native.Mathlib.Omega.{arith}
 use Rattle.number.specs.Bytes.{Bytes}
 use Prim.Native.Nat.{_-_, _≤_}
-use Rattle.field.specs.Field.{climb}
+use Rattle.field.specs.Field.{ascending}
 use Rattle.field.proofs.Readers.{told-got, told-refused}
 use Rattle.field.proofs.Spelt.{rising-spelt}
-use Rattle.field.proofs.Lists.{climb-start, climb-step, climb-stop, climb-done}
+use Rattle.field.proofs.Lists.{ascending-start, ascending-step, ascending-stop, ascending-done}
 use Rattle.plan.proofs.Filling.{Filling, filling-start, filling-step, filling-stop, filling-done}
 use Rattle.plan.proofs.read_short.Statement.{statement}
 use Rattle.plan.proofs.read_short.Tie as tie
 
 abbrev Inv-loop : tie.InvT-loop
-Inv-loop s at m high out₀ n p₀ floor₀ i₀ out p floor i = Filling (climb m 0 high s at) (climb (m - i) floor high s p) out₀ out i × (i ≤ m)
+Inv-loop s at m high out₀ n p₀ floor₀ i₀ out p floor i = Filling (ascending m 0 high s at) (ascending (m - i) floor high s p) out₀ out i × (i ≤ m)
 
 abbrev μ-loop : tie.MeasureT-loop
 μ-loop s at m high out₀ n p₀ floor₀ i₀ out p floor i = m - i
 
 loop-holds : tie.Need-loop-holds Inv-loop μ-loop
-loop-holds c = (filling-start _ (climb-start _ _ _ _ _), omega arith)
+loop-holds c = (filling-start _ (ascending-start _ _ _ _ _), omega arith)
 
 risen-requires : tie.Need-risen-requires Inv-loop μ-loop
 risen-requires c κs = search needs
@@ -47,7 +47,7 @@ same-length : tie.Need-same-length Inv-loop μ-loop
 same-length c = search needs
 
 returns : tie.Need-returns Inv-loop μ-loop
-returns c = filling-stop (c .before .before .before .before .before .loop .inv .0) _ (climb-stop _ _ _ _ _ _ _ (omega arith) (told-refused (c .before .before .before .risen .ensures) (c .before .why .given .1)))
+returns c = filling-stop (c .before .before .before .before .before .loop .inv .0) _ (ascending-stop _ _ _ _ _ _ _ (omega arith) (told-refused (c .before .before .before .risen .ensures) (c .before .why .given .1)))
 
 add-i : tie.Need-add-i Inv-loop μ-loop
 add-i c = search needs
@@ -56,13 +56,13 @@ loop-less : tie.Need-loop-less Inv-loop μ-loop
 loop-less c = search needs
 
 loop-again : tie.Need-loop-again Inv-loop μ-loop
-loop-again c = (filling-step (c .before .before .before .before .before .loop .inv .0) _ (omega arith) (climb-step _ _ _ _ _ _ _ (omega arith) (told-got (c .before .before .before .risen .ensures) (c .before .v .given .1))), omega arith)
+loop-again c = (filling-step (c .before .before .before .before .before .loop .inv .0) _ (omega arith) (ascending-step _ _ _ _ _ _ _ (omega arith) (told-got (c .before .before .before .risen .ensures) (c .before .v .given .1))), omega arith)
 
 same-length-2 : tie.Need-same-length-2 Inv-loop μ-loop
 same-length-2 c = search needs
 
 returns-2 : tie.Need-returns-2 Inv-loop μ-loop
-returns-2 c = filling-done (c .before .loop .inv .0) _ (omega arith) (climb-done _ _ _ _ _ _ _ (omega arith))
+returns-2 c = filling-done (c .before .loop .inv .0) _ (omega arith) (ascending-done _ _ _ _ _ _ _ (omega arith))
 
 pub read-short-spec : {M : Type 1} → statement M
 read-short-spec =

@@ -12,33 +12,12 @@ returns c = many-disks _ _ _ _ (c .if1 .taken)
 returns-2 : tie.Need-returns-2
 returns-2 c = many-members _ _ _ _ (c .if2 .taken)
 
-sheet-width-requires : tie.Need-sheet-width-requires
-sheet-width-requires c κs = search needs
-
 returns-3 : tie.Need-returns-3
 returns-3 c = long-sent _ _ _ _ (c .before .before .before .if1 .left) (c .before .before .if2 .left) (omega (arith, c .before .sheet-width .ensures))
-
-cast-put-head : tie.Need-cast-put-head
-cast-put-head c = search needs
 
 put-head-requires : tie.Need-put-head-requires
 put-head-requires c κs = let a = c .before .before .before .before .before .before .before .before .args in
     head-room (a .unit) (a .tenancy) (record { time = a .time; disks = a .disks .now; short = a .short .now }) (a .out .now) (c .before .before .sheet-width .ensures) (c .before .if3 .left)
-
-put-disks-requires : tie.Need-put-disks-requires
-put-disks-requires c κs = search needs
-
-cast-put : tie.Need-cast-put
-cast-put c = search needs
-
-put-requires : tie.Need-put-requires
-put-requires c κs = search needs
-
-put-short-requires : tie.Need-put-short-requires
-put-short-requires c κs = search needs
-
-same-length : tie.Need-same-length
-same-length c = search needs
 
 returns-4 : tie.Need-returns-4
 returns-4 c = sheet-sent _ _ _ _ (c .before .before .before .before .before .before .before .before .before .before .before .before .before .before .before .before .before .before .before .if1 .left) (c .before .before .before .before .before .before .before .before .before .before .before .before .before .before .before .before .before .before .if2 .left) (omega (arith, c .before .before .before .before .before .before .before .before .before .before .before .before .before .before .before .before .before .sheet-width .ensures, c .before .before .before .before .before .before .before .before .before .before .before .before .before .before .before .before .if3 .left)) (adds-join (adds-put (adds-join (c .before .before .before .before .before .before .before .before .before .before .before .before .before .before .put-head .ensures) (c .before .before .before .before .before .before .before .before .before .before .put-disks .ensures)) (c .before .before .before .before .before .before .put .ensures)) (c .before .before .put-short .ensures))
@@ -49,13 +28,13 @@ write-spec =
     (tie.spec
     returns
     returns-2
-    sheet-width-requires
+    (λ c κs. search needs)
     returns-3
-    cast-put-head
+    (λ c. search needs)
     put-head-requires
-    put-disks-requires
-    cast-put
-    put-requires
-    put-short-requires
-    same-length
+    (λ c κs. search needs)
+    (λ c. search needs)
+    (λ c κs. search needs)
+    (λ c κs. search needs)
+    (λ c. search needs)
     returns-4)

@@ -12,11 +12,8 @@ returns c = sym (last-all _ (c .if1 .taken))
 returns-2 : tie.Need-returns-2
 returns-2 c = omega (arith, last-few (c .before .before .args .disks) (omega arith))
 
-sub-result : tie.Need-sub-result
-sub-result c = search needs
-
 returns-3 : tie.Need-returns-3
 returns-3 c = sym (last-few _ (omega arith))
 
 pub last-spec : {M : Type 1} → statement M
-last-spec = tie.close (tie.spec returns returns-2 sub-result returns-3)
+last-spec = tie.close (tie.spec returns returns-2 (λ c. search needs) returns-3)

@@ -8,12 +8,6 @@ use mathlib.Core.Path.{sym, _∙_}
 use Rattle.request.proofs.one_block.Statement.{statement}
 use Rattle.request.proofs.one_block.Tie as tie
 
-any-requires : tie.Need-any-requires
-any-requires c κs = search needs
-
-enum-known-k : tie.Need-enum-known-k
-enum-known-k c = search needs
-
 returns : tie.Need-returns
 unfolding toldCopies numberOf
 returns c = sym (block-none _ _ _ _ _ (told-got (c .before .before .before .before .any .ensures) (c .before .before .k .given .1)) (c .if1 .taken))
@@ -21,12 +15,6 @@ returns c = sym (block-none _ _ _ _ _ (told-got (c .before .before .before .befo
 returns-2 : tie.Need-returns-2
 unfolding toldCopies numberOf
 returns-2 c = sym (block-many _ _ _ _ _ (told-got (c .before .before .before .before .before .any .ensures) (c .before .before .before .k .given .1)) (c .before .if1 .left) (c .if2 .taken))
-
-gather-requires : tie.Need-gather-requires
-gather-requires c κs = search needs
-
-enum-known-e : tie.Need-enum-known-e
-enum-known-e c = search needs
 
 returns-3 : tie.Need-returns-3
 returns-3 c = c .gather .ensures ∙ sym (block-of _ _ _ _ _ (told-got (c .before .before .before .before .before .before .any .ensures) (c .before .before .before .before .k .given .1)) (c .before .before .if1 .left) (c .before .if2 .left))
@@ -39,11 +27,11 @@ pub one-block-spec : {M : Type 1} → statement M
 one-block-spec =
     tie.close
     (tie.spec
-    any-requires
-    enum-known-k
+    (λ c κs. search needs)
+    (λ c. search needs)
     returns
     returns-2
-    gather-requires
-    enum-known-e
+    (λ c κs. search needs)
+    (λ c. search needs)
     returns-3
     returns-4)

@@ -8,12 +8,6 @@ use mathlib.Core.Path.{sym, _∙_}
 use Rattle.request.proofs.opening.Statement.{statement}
 use Rattle.request.proofs.opening.Tie as tie
 
-opening-requires : tie.Need-opening-requires
-opening-requires c κs = search needs
-
-enum-known-found : tie.Need-enum-known-found
-enum-known-found c = search needs
-
 enum-told : tie.Need-enum-told
 enum-told c = search needs
 
@@ -26,9 +20,6 @@ unfolding told numberOf
 returns-2 c = let found = c .before .before in
     sym (heading-unset _ _ _ _ (told-got (found .before .before .opening .ensures) (found .found .given .1)) (c .if1 .taken))
 
-ranged-requires : tie.Need-ranged-requires
-ranged-requires c κs = search needs
-
 returns-3 : tie.Need-returns-3
 returns-3 c = let found = c .before .before .before in
     c .ranged .ensures ∙ sym (heading-count _ _ _ _ (told-got (found .before .before .opening .ensures) (found .found .given .1)) (c .before .if1 .left))
@@ -37,10 +28,10 @@ pub opening-spec : {M : Type 1} → statement M
 opening-spec =
     tie.close
     (tie.spec
-    opening-requires
-    enum-known-found
+    (λ c κs. search needs)
+    (λ c. search needs)
     enum-told
     returns
     returns-2
-    ranged-requires
+    (λ c κs. search needs)
     returns-3)

@@ -4,21 +4,12 @@ use Rattle.request.proofs.Writing.{block-room, block-put}
 use Rattle.request.proofs.put_block.Statement.{statement}
 use Rattle.request.proofs.put_block.Tie as tie
 
-count-requires : tie.Need-count-requires
-count-requires c κs = search needs
-
-put-requires : tie.Need-put-requires
-put-requires c κs = search needs
-
 put-disks-requires : tie.Need-put-disks-requires
 put-disks-requires c κs = block-room _ (c .before .before .before .before .before .count .ensures) (c .before .before .before .before .before .before .before .pre) (c .before .before .before .put .ensures)
-
-same-length : tie.Need-same-length
-same-length c = search needs
 
 returns : tie.Need-returns
 returns c = block-put _ (c .before .before .before .before .before .before .before .before .count .ensures) (c .before .before .before .before .before .before .before .before .before .before .pre) (c .before .before .before .before .before .before .put .ensures) (c .before .before .put-disks .ensures)
 
 pub put-block-spec : {M : Type 1} → statement M
 put-block-spec =
-    tie.close (tie.spec count-requires put-requires put-disks-requires same-length returns)
+    tie.close (tie.spec (λ c κs. search needs) (λ c κs. search needs) put-disks-requires (λ c. search needs) returns)

@@ -12,15 +12,9 @@ unfolding headingBytes
 put-opening-requires c κs = let a = c .before .before .args in
     front-room (openingBytes 2 (a .unit) (a .tenancy)) (encode (a .q)) (a .out .now) (c .before .before .pre)
 
-put-requires : tie.Need-put-requires
-put-requires c κs = search needs
-
-same-length : tie.Need-same-length
-same-length c = search needs
-
 returns : tie.Need-returns
 unfolding headingBytes
 returns c = put-behind (c .before .before .before .before .before .before .put-opening .ensures) (c .before .before .put .ensures) (c .before .before .before .before .before .before .before .before .before .pre)
 
 pub put-heading-spec : {M : Type 1} → statement M
-put-heading-spec = tie.close (tie.spec put-opening-requires put-requires same-length returns)
+put-heading-spec = tie.close (tie.spec put-opening-requires (λ c κs. search needs) (λ c. search needs) returns)

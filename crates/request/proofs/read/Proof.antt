@@ -6,26 +6,8 @@ use Rattle.field.proofs.Readers.{told-got, told-refused}
 use Rattle.request.proofs.read.Statement.{statement}
 use Rattle.request.proofs.read.Tie as tie
 
-opening-requires : tie.Need-opening-requires
-opening-requires c κs = search needs
-
-enum-known-q : tie.Need-enum-known-q
-enum-known-q c = search needs
-
-cast-blocks : tie.Need-cast-blocks
-cast-blocks c = search needs
-
-last-requires : tie.Need-last-requires
-last-requires c κs = search needs
-
 blocks-requires : tie.Need-blocks-requires
 blocks-requires c κs = (heading-within _ _ _ _ (told-got (c .before .before .before .before .opening .ensures) (c .before .before .q .given .1)), omega (arith, c .last .ensures, last-le (c .before .before .before .before .before .before .args .disks)))
-
-enum-known-e : tie.Need-enum-known-e
-enum-known-e c = search needs
-
-refuse-requires : tie.Need-refuse-requires
-refuse-requires c κs = search needs
 
 returns : tie.Need-returns
 returns c = answered-sheet _ _ _ _ (told-got (c .before .before .before .before .before .opening .ensures) (c .before .before .before .q .given .1)) (c .before .last .ensures) (c .blocks2 .ensures)
@@ -37,12 +19,12 @@ pub read-spec : {M : Type 1} → statement M
 read-spec =
     tie.close
     (tie.spec
-    opening-requires
-    enum-known-q
-    cast-blocks
-    last-requires
+    (λ c κs. search needs)
+    (λ c. search needs)
+    (λ c. search needs)
+    (λ c κs. search needs)
     blocks-requires
-    enum-known-e
-    refuse-requires
+    (λ c. search needs)
+    (λ c κs. search needs)
     returns
     returns-2)

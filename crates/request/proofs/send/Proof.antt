@@ -10,24 +10,12 @@ use Prim.Native.Nat.{_≤_}
 use Rattle.request.proofs.send.Statement.{statement}
 use Rattle.request.proofs.send.Tie as tie
 
-cast-q : tie.Need-cast-q
-cast-q c = search needs
-
-width-requires : tie.Need-width-requires
-width-requires c κs = search needs
-
 add-length : tie.Need-add-length
 add-length c = omega (arith, c .width .ensures, width-bounds (c .before .before .before .args .unit))
-
-width-requires-2 : tie.Need-width-requires-2
-width-requires-2 c κs = search needs
 
 add-length-2 : tie.Need-add-length-2
 add-length-2 c = let at = c .before .before .before .before in
     omega (arith, c .width2 .ensures, c .before .width .ensures, width-bounds (at .args .unit), width-bounds (at .args .tenancy))
-
-width-requires-3 : tie.Need-width-requires-3
-width-requires-3 c κs = search needs
 
 add-length-3 : tie.Need-add-length-3
 add-length-3 c = let at = c .before .before .before .before .before in
@@ -57,9 +45,6 @@ put-blocks-requires c κs = let at = c .before .before .before .before .before .
     let room : length (requestBytes (at .args .unit) (at .args .tenancy) (at .args .copies .now)) ≤ length (at .args .out .now) = omega (arith, long, c .before .before .before .before .before .if1 .left) in
     blocks-room _ _ _ _ room (c .before .before .before .put-heading .ensures)
 
-same-length : tie.Need-same-length
-same-length c = search needs
-
 returns-2 : tie.Need-returns-2
 returns-2 c = let at = c .before .before .before .before .before .before .before .before .before .before .before .before .before .before in
     let wide = c .before .before .before .before .before .before .before .before .before in
@@ -71,16 +56,16 @@ pub send-spec : {M : Type 1} → statement M
 send-spec =
     tie.close
     (tie.spec
-    cast-q
-    width-requires
+    (λ c. search needs)
+    (λ c κs. search needs)
     add-length
-    width-requires-2
+    (λ c κs. search needs)
     add-length-2
-    width-requires-3
+    (λ c κs. search needs)
     add-length-3
     add-length-4
     returns
     put-heading-requires
     put-blocks-requires
-    same-length
+    (λ c. search needs)
     returns-2)

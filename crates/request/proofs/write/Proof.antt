@@ -3,41 +3,29 @@ use borrow.Author.Needs.{needs}
 use Rattle.request.proofs.Drafting.{draft-tenancy, draft-unset, draft-large, draft-long, draft-of, sent-as, sized-got, sized-refused}
 use Rattle.field.proofs.Sends.{sent-refused}
 use Rattle.field.specs.Refusal.{numberOf}
-use Rattle.field.specs.declared.Refusal.the-variants.{Range}
+use Rattle.field.specs.declared.Refusal.the-variants.{OutOfRange}
 use mathlib.Core.Path.{_∙_}
 use Rattle.request.proofs.write.Statement.{statement}
 use Rattle.request.proofs.write.Tie as tie
 
 returns : tie.Need-returns
 unfolding numberOf
-returns c = sent-as (draft-tenancy _ _ _ _ (c .if1 .taken)) (sent-refused Range _)
+returns c = sent-as (draft-tenancy _ _ _ _ (c .if1 .taken)) (sent-refused OutOfRange _)
 
 returns-2 : tie.Need-returns-2
 unfolding numberOf
-returns-2 c = sent-as (draft-unset _ _ _ _ (c .before .if1 .left) (c .if2 .taken)) (sent-refused Range _)
+returns-2 c = sent-as (draft-unset _ _ _ _ (c .before .if1 .left) (c .if2 .taken)) (sent-refused OutOfRange _)
 
 returns-3 : tie.Need-returns-3
 unfolding numberOf
-returns-3 c = sent-as (draft-large _ _ _ _ (c .before .before .if1 .left) (c .before .if2 .left) (c .if3 .taken)) (sent-refused Range _)
+returns-3 c = sent-as (draft-large _ _ _ _ (c .before .before .if1 .left) (c .before .if2 .left) (c .if3 .taken)) (sent-refused OutOfRange _)
 
 returns-4 : tie.Need-returns-4
 unfolding numberOf
-returns-4 c = sent-as (draft-long _ _ _ _ (c .before .before .before .if1 .left) (c .before .before .if2 .left) (c .before .if3 .left) (c .if4 .taken)) (sent-refused Range _)
-
-size-requires : tie.Need-size-requires
-size-requires c κs = search needs
-
-enum-known-n : tie.Need-enum-known-n
-enum-known-n c = search needs
+returns-4 c = sent-as (draft-long _ _ _ _ (c .before .before .before .if1 .left) (c .before .before .if2 .left) (c .before .if3 .left) (c .if4 .taken)) (sent-refused OutOfRange _)
 
 send-requires : tie.Need-send-requires
 send-requires c κs = sized-got _ _ (c .before .before .before .before .size .ensures) (c .before .before .n .given .1) .0
-
-enum-known-e : tie.Need-enum-known-e
-enum-known-e c = search needs
-
-same-length : tie.Need-same-length
-same-length c = search needs
 
 returns-5 : tie.Need-returns-5
 returns-5 c = let tests = c .before .before .before .before .before .before .before .before in
@@ -57,10 +45,10 @@ write-spec =
     returns-2
     returns-3
     returns-4
-    size-requires
-    enum-known-n
+    (λ c κs. search needs)
+    (λ c. search needs)
     send-requires
-    enum-known-e
-    same-length
+    (λ c. search needs)
+    (λ c. search needs)
     returns-5
     returns-6)

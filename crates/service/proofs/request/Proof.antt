@@ -8,32 +8,17 @@ use mathlib.Core.Path.{sym}
 use Rattle.service.proofs.request.Statement.{statement}
 use Rattle.service.proofs.request.Tie as tie
 
-array-borrow-prefix-out : tie.Need-array-borrow-prefix-out
-array-borrow-prefix-out c = search needs
-
 slice-aggregate-request : tie.Need-slice-aggregate-request
 slice-aggregate-request c = sym (length-take-le _ _ (omega arith))
 
 request-requires : tie.Need-request-requires
 request-requires c κs = c .before .before .pre .0
 
-enum-known-answer : tie.Need-enum-known-answer
-enum-known-answer c = search needs
-
 array-share-prefix-out : tie.Need-array-share-prefix-out
 array-share-prefix-out c = part-within (c .before .before .before .before .request .last .1 .1 .0) _ (omega (arith, answered-within _ _ _ _ _ (c .before .before .before .before .request .ensures) _ (c .before .answer .given .1)))
 
 slice-aggregate-sheet-line : tie.Need-slice-aggregate-sheet-line
 slice-aggregate-sheet-line c = sym (length-take-le _ _ (part-within (c .before .before .before .before .before .request .last .1 .1 .0) _ (omega (arith, answered-within _ _ _ _ _ (c .before .before .before .before .before .request .ensures) _ (c .before .before .answer .given .1)))))
-
-sheet-line-requires : tie.Need-sheet-line-requires
-sheet-line-requires c κs = search needs
-
-enum-known-answer-2 : tie.Need-enum-known-answer-2
-enum-known-answer-2 c = search needs
-
-refuse-requires : tie.Need-refuse-requires
-refuse-requires c κs = search needs
 
 returns : tie.Need-returns
 returns c = request-sent _ _ _ (length-take-le _ _ (omega arith)) _ _ (c .before .before .before .before .before .before .before .request .last .1 .1 .0) (c .before .before .before .before .before .before .before .request .ensures) _ (c .before .before .before .before .answer .given .1) _ (omega arith) (c .sheet-line .ensures)
@@ -45,14 +30,14 @@ pub request-spec : {M : Type 1} → statement M
 request-spec =
     tie.close
     (tie.spec
-    array-borrow-prefix-out
+    (λ c. search needs)
     slice-aggregate-request
     request-requires
-    enum-known-answer
+    (λ c. search needs)
     array-share-prefix-out
     slice-aggregate-sheet-line
-    sheet-line-requires
-    enum-known-answer-2
-    refuse-requires
+    (λ c κs. search needs)
+    (λ c. search needs)
+    (λ c κs. search needs)
     returns
     returns-2)

@@ -5,21 +5,6 @@ use Rattle.service.proofs.Serving.{served-rent, served-set, served-requ
 use Rattle.service.proofs.serve.Statement.{statement}
 use Rattle.service.proofs.serve.Tie as tie
 
-read-call-requires : tie.Need-read-call-requires
-read-call-requires c κs = search needs
-
-enum-known-t : tie.Need-enum-known-t
-enum-known-t c = search needs
-
-rent-requires : tie.Need-rent-requires
-rent-requires c κs = search needs
-
-finish-requires : tie.Need-finish-requires
-finish-requires c κs = search needs
-
-enum-known-from : tie.Need-enum-known-from
-enum-known-from c = search needs
-
 sub-settings : tie.Need-sub-settings
 sub-settings c = omega (arith, held-settings (c .before .before .before .read-call .ensures) _ _ (c .before .from .given .1) .order)
 
@@ -28,15 +13,6 @@ part-settings-start c = held-settings (c .before .before .before .read-call .ens
 
 part-settings-end : tie.Need-part-settings-end
 part-settings-end c = held-settings (c .before .before .before .read-call .ensures) _ _ (c .before .from .given .1) .end
-
-settings-requires : tie.Need-settings-requires
-settings-requires c κs = search needs
-
-finish-requires-2 : tie.Need-finish-requires-2
-finish-requires-2 c κs = search needs
-
-enum-known-room : tie.Need-enum-known-room
-enum-known-room c = search needs
 
 sub-request : tie.Need-sub-request
 sub-request c = omega (arith, held-request (c .before .before .before .read-call .ensures) _ _ _ (c .before .room .given .1) .0 .order)
@@ -49,21 +25,6 @@ part-request-end c = held-request (c .before .before .before .read-call .ensures
 
 request-requires : tie.Need-request-requires
 request-requires c κs = (c .before .before .before .before .before .before .before .pre, held-request (c .before .before .before .before .before .read-call .ensures) _ _ _ (c .before .before .before .room .given .1) .1)
-
-enum-known-t-2 : tie.Need-enum-known-t-2
-enum-known-t-2 c = search needs
-
-give-back-requires : tie.Need-give-back-requires
-give-back-requires c κs = search needs
-
-finish-requires-3 : tie.Need-finish-requires-3
-finish-requires-3 c κs = search needs
-
-enum-known-e : tie.Need-enum-known-e
-enum-known-e c = search needs
-
-stop-requires : tie.Need-stop-requires
-stop-requires c κs = search needs
 
 returns : tie.Need-returns
 returns c = served-rent (c .before .before .before .before .before .before .read-call .ensures) (c .before .before .rent .result) _ _ (c .before .before .before .before .t .given .1) (c .before .before .rent .ensures) (c .finish .ensures)
@@ -84,26 +45,26 @@ pub serve-spec : {M : Type 1} → statement M
 serve-spec =
     tie.close
     (tie.spec
-    read-call-requires
-    enum-known-t
-    rent-requires
-    finish-requires
-    enum-known-from
+    (λ c κs. search needs)
+    (λ c. search needs)
+    (λ c κs. search needs)
+    (λ c κs. search needs)
+    (λ c. search needs)
     sub-settings
     part-settings-start
     part-settings-end
-    settings-requires
-    finish-requires-2
-    enum-known-room
+    (λ c κs. search needs)
+    (λ c κs. search needs)
+    (λ c. search needs)
     sub-request
     part-request-start
     part-request-end
     request-requires
-    enum-known-t-2
-    give-back-requires
-    finish-requires-3
-    enum-known-e
-    stop-requires
+    (λ c. search needs)
+    (λ c κs. search needs)
+    (λ c κs. search needs)
+    (λ c. search needs)
+    (λ c κs. search needs)
     returns
     returns-2
     returns-3

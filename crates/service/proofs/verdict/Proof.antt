@@ -7,15 +7,6 @@ use Rattle.service.proofs.verdict.Tie as tie
 enum-told : tie.Need-enum-told
 enum-told c = search needs
 
-say-requires : tie.Need-say-requires
-say-requires c κs = search needs
-
-enum-known-answer : tie.Need-enum-known-answer
-enum-known-answer c = search needs
-
-refuse-requires : tie.Need-refuse-requires
-refuse-requires c κs = search needs
-
 returns : tie.Need-returns
 returns c = verdict-taken _ _ (c .before .before .enum-told .given .1) (c .say .ensures)
 
@@ -24,4 +15,4 @@ returns-2 c = verdict-denied _ _ _ (c .before .before .before .answer .given .1)
 
 pub verdict-spec : {M : Type 1} → statement M
 verdict-spec =
-    tie.close (tie.spec enum-told say-requires enum-known-answer refuse-requires returns returns-2)
+    tie.close (tie.spec enum-told (λ c κs. search needs) (λ c. search needs) (λ c κs. search needs) returns returns-2)

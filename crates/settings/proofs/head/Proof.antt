@@ -7,18 +7,6 @@ use Rattle.settings.proofs.Reading.{heading-got, heading-stops}
 use Rattle.settings.proofs.head.Statement.{statement}
 use Rattle.settings.proofs.head.Tie as tie
 
-opening-requires : tie.Need-opening-requires
-opening-requires c κs = search needs
-
-enum-known-at : tie.Need-enum-known-at
-enum-known-at c = search needs
-
-ranged-requires : tie.Need-ranged-requires
-ranged-requires c κs = search needs
-
-enum-known-e : tie.Need-enum-known-e
-enum-known-e c = search needs
-
 returns : tie.Need-returns
 returns c = c .ranged .ensures ∙ sym (heading-got _ _ _ _ (told-got (c .before .before .before .before .opening .ensures) (c .before .before .at .given .1)))
 
@@ -29,4 +17,4 @@ returns-2 c = sym (heading-stops _ _ _ _ (told-refused (c .before .before .befor
 pub head-spec : {M : Type 1} → statement M
 head-spec =
     tie.close
-    (tie.spec opening-requires enum-known-at ranged-requires enum-known-e returns returns-2)
+    (tie.spec (λ c κs. search needs) (λ c. search needs) (λ c κs. search needs) (λ c. search needs) returns returns-2)

@@ -12,15 +12,9 @@ unfolding headBytes
 put-opening-requires c κs = let a = c .before .before .args in
     front-room (openingBytes 1 (a .unit) (a .tenancy)) (encode (a .disks)) (a .out .now) (c .before .before .pre)
 
-put-requires : tie.Need-put-requires
-put-requires c κs = search needs
-
-same-length : tie.Need-same-length
-same-length c = search needs
-
 returns : tie.Need-returns
 unfolding headBytes
 returns c = put-behind (c .before .before .before .before .before .before .put-opening .ensures) (c .before .before .put .ensures) (c .before .before .before .before .before .before .before .before .before .pre)
 
 pub put-head-spec : {M : Type 1} → statement M
-put-head-spec = tie.close (tie.spec put-opening-requires put-requires same-length returns)
+put-head-spec = tie.close (tie.spec put-opening-requires (λ c κs. search needs) (λ c. search needs) returns)

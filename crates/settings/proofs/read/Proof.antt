@@ -5,20 +5,8 @@ use Rattle.settings.proofs.Reading.{heading-disks, told-none, read-told
 use Rattle.settings.proofs.read.Statement.{statement}
 use Rattle.settings.proofs.read.Tie as tie
 
-head-requires : tie.Need-head-requires
-head-requires c κs = search needs
-
-enum-known-disks : tie.Need-enum-known-disks
-enum-known-disks c = search needs
-
 body-requires : tie.Need-body-requires
 body-requires c κs = heading-disks _ _ _ _ _ _ (told-got (c .before .before .before .head .ensures) (c .before .disks .given .1))
-
-enum-known-e : tie.Need-enum-known-e
-enum-known-e c = search needs
-
-refuse-requires : tie.Need-refuse-requires
-refuse-requires c κs = search needs
 
 returns : tie.Need-returns
 returns c = read-told _ _ _ (told-got (c .before .before .before .before .head .ensures) (c .before .before .disks .given .1)) (c .body .ensures)
@@ -30,10 +18,10 @@ pub read-spec : {M : Type 1} → statement M
 read-spec =
     tie.close
     (tie.spec
-    head-requires
-    enum-known-disks
+    (λ c κs. search needs)
+    (λ c. search needs)
     body-requires
-    enum-known-e
-    refuse-requires
+    (λ c. search needs)
+    (λ c κs. search needs)
     returns
     returns-2)

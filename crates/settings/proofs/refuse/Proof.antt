@@ -7,12 +7,9 @@ use Rattle.settings.specs.declared.Answer.the-variants.{Refused}
 use Rattle.settings.proofs.refuse.Statement.{statement}
 use Rattle.settings.proofs.refuse.Tie as tie
 
-empty-requires : tie.Need-empty-requires
-empty-requires c κs = search needs
-
 returns : tie.Need-returns
 unfolding refusedWith
 returns c = ap (λ (t : Table). record { answer = Refused (c .before .args .refusal); table = t }) (c .empty .ensures)
 
 pub refuse-spec : {M : Type 1} → statement M
-refuse-spec = tie.close (tie.spec empty-requires returns)
+refuse-spec = tie.close (tie.spec (λ c κs. search needs) returns)

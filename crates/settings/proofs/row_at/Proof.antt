@@ -7,33 +7,6 @@ use Rattle.settings.proofs.Reading.{row-got, row-first, row-second, row
 use Rattle.settings.proofs.row_at.Statement.{statement}
 use Rattle.settings.proofs.row_at.Tie as tie
 
-ranged-requires : tie.Need-ranged-requires
-ranged-requires c κs = search needs
-
-enum-known-cost : tie.Need-enum-known-cost
-enum-known-cost c = search needs
-
-ranged-requires-2 : tie.Need-ranged-requires-2
-ranged-requires-2 c κs = search needs
-
-enum-known-load : tie.Need-enum-known-load
-enum-known-load c = search needs
-
-ranged-requires-3 : tie.Need-ranged-requires-3
-ranged-requires-3 c κs = search needs
-
-enum-known-delay : tie.Need-enum-known-delay
-enum-known-delay c = search needs
-
-enum-known-e : tie.Need-enum-known-e
-enum-known-e c = search needs
-
-enum-known-e-2 : tie.Need-enum-known-e-2
-enum-known-e-2 c = search needs
-
-enum-known-e-3 : tie.Need-enum-known-e-3
-enum-known-e-3 c = search needs
-
 returns : tie.Need-returns
 unfolding toldRow
 returns c = sym (row-got _ _ (told-got (c .before .before .before .before .before .before .before .before .before .before .before .ranged .ensures) (c .before .before .before .before .before .before .before .before .before .cost .given .1)) (told-got (c .before .before .before .before .before .before .before .ranged2 .ensures) (c .before .before .before .before .before .load .given .1)) (told-got (c .before .before .before .ranged3 .ensures) (c .before .delay .given .1)))
@@ -54,15 +27,15 @@ pub row-at-spec : {M : Type 1} → statement M
 row-at-spec =
     tie.close
     (tie.spec
-    ranged-requires
-    enum-known-cost
-    ranged-requires-2
-    enum-known-load
-    ranged-requires-3
-    enum-known-delay
-    enum-known-e
-    enum-known-e-2
-    enum-known-e-3
+    (λ c κs. search needs)
+    (λ c. search needs)
+    (λ c κs. search needs)
+    (λ c. search needs)
+    (λ c κs. search needs)
+    (λ c. search needs)
+    (λ c. search needs)
+    (λ c. search needs)
+    (λ c. search needs)
     returns
     returns-2
     returns-3

@@ -28,17 +28,8 @@ returns-4 : tie.Need-returns-4
 unfolding rowWidth inRange pick
 returns-4 c = sym (simp (le-leb _ _ (c .before .before .before .if1 .left), le-leb _ _ (c .before .before .if2 .left), le-leb _ _ (c .before .if3 .left), lt-leb _ _ (c .if4 .taken)))
 
-width-requires : tie.Need-width-requires
-width-requires c κs = search needs
-
-width-requires-2 : tie.Need-width-requires-2
-width-requires-2 c κs = search needs
-
 add-result : tie.Need-add-result
 add-result c = omega (arith, c .before .width .ensures, c .width2 .ensures, width-bounds (c .before .before .before .before .before .before .args .cost), width-bounds (c .before .before .before .before .before .before .args .load))
-
-width-requires-3 : tie.Need-width-requires-3
-width-requires-3 c κs = search needs
 
 add-result-2 : tie.Need-add-result-2
 add-result-2 c = omega (arith, c .before .before .width .ensures, c .before .width2 .ensures, c .width3 .ensures, width-bounds (c .before .before .before .before .before .before .before .args .cost), width-bounds (c .before .before .before .before .before .before .before .args .load), width-bounds (c .before .before .before .before .before .before .before .args .delay))
@@ -55,9 +46,9 @@ row-width-spec =
     returns-2
     returns-3
     returns-4
-    width-requires
-    width-requires-2
+    (λ c κs. search needs)
+    (λ c κs. search needs)
     add-result
-    width-requires-3
+    (λ c κs. search needs)
     add-result-2
     returns-5)

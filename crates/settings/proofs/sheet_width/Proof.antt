@@ -22,20 +22,11 @@ returns-4 c = width-few _ _ _ _ _ (c .if4 .taken)
 returns-5 : tie.Need-returns-5
 returns-5 c = width-many _ _ _ _ _ (c .if5 .taken)
 
-rows-width-requires : tie.Need-rows-width-requires
-rows-width-requires c κs = search needs
-
 returns-6 : tie.Need-returns-6
 returns-6 c = width-rows _ _ _ _ _ (c .before .before .before .before .before .if2 .left) (c .before .before .before .before .if3 .left) (c .before .before .before .if4 .left) (c .before .rows-width .ensures) (c .if6 .taken)
 
-width-requires : tie.Need-width-requires
-width-requires c κs = search needs
-
 add-result : tie.Need-add-result
 add-result c = omega (arith, c .width .ensures, width-bounds (c .before .before .before .before .before .before .before .before .before .before .before .args .unit))
-
-width-requires-2 : tie.Need-width-requires-2
-width-requires-2 c κs = search needs
 
 add-result-2 : tie.Need-add-result-2
 add-result-2 c = omega (arith, c .before .width .ensures, c .width2 .ensures, width-bounds (c .before .before .before .before .before .before .before .before .before .before .before .before .args .unit), width-bounds (c .before .before .before .before .before .before .before .before .before .before .before .before .args .tenancy))
@@ -55,11 +46,11 @@ sheet-width-spec =
     returns-3
     returns-4
     returns-5
-    rows-width-requires
+    (λ c κs. search needs)
     returns-6
-    width-requires
+    (λ c κs. search needs)
     add-result
-    width-requires-2
+    (λ c κs. search needs)
     add-result-2
     add-result-3
     returns-7)

@@ -5,9 +5,6 @@ use Rattle.settings.proofs.Writing.{write-none, write-long, write-sheet
 use Rattle.settings.proofs.write.Statement.{statement}
 use Rattle.settings.proofs.write.Tie as tie
 
-sheet-width-requires : tie.Need-sheet-width-requires
-sheet-width-requires c κs = search needs
-
 returns : tie.Need-returns
 returns c = write-none _ _ _ _ _ (c .before .sheet-width .ensures) _ (c .if1 .taken)
 
@@ -23,9 +20,6 @@ put-head-requires c κs = head-room _ _ _ _ _ (c .before .before .before .sheet-
 put-rows-requires : tie.Need-put-rows-requires
 put-rows-requires c κs = ((write-sheet _ _ _ _ _ (c .before .before .before .before .before .before .before .sheet-width .ensures) (c .before .before .before .before .before .before .if1 .left) .loads, write-sheet _ _ _ _ _ (c .before .before .before .before .before .before .before .sheet-width .ensures) (c .before .before .before .before .before .before .if1 .left) .delays), rows-room _ _ _ _ _ (c .before .before .before .before .before .before .before .sheet-width .ensures) (c .before .before .before .before .before .before .if1 .left) (c .before .before .before .before .before .before .before .before .before .before .before .before .args .out .now) (c .before .before .before .before .before .if2 .left) (c .before .before .before .put-head .ensures))
 
-same-length : tie.Need-same-length
-same-length c = search needs
-
 returns-3 : tie.Need-returns-3
 returns-3 c = write-done _ _ _ _ _ (c .before .before .before .before .before .before .before .before .before .before .sheet-width .ensures) (c .before .before .before .before .before .before .before .before .before .if1 .left) _ (c .before .before .before .before .before .before .before .before .if2 .left) (c .before .before .before .before .before .before .put-head .ensures) (c .before .before .put-rows .ensures)
 
@@ -33,11 +27,11 @@ pub write-spec : {M : Type 1} → statement M
 write-spec =
     tie.close
     (tie.spec
-    sheet-width-requires
+    (λ c κs. search needs)
     returns
     returns-2
     cast-put-head
     put-head-requires
     put-rows-requires
-    same-length
+    (λ c. search needs)
     returns-3)

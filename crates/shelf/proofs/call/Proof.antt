@@ -8,29 +8,11 @@ use Rattle.service.proofs.Serving.{served-sound}
 use Rattle.shelf.proofs.call.Statement.{statement}
 use Rattle.shelf.proofs.call.Tie as tie
 
-slice-reshare-prefix-serve : tie.Need-slice-reshare-prefix-serve
-slice-reshare-prefix-serve c = search needs
-
 slice-aggregate-serve : tie.Need-slice-aggregate-serve
 slice-aggregate-serve c = sym (length-take-le _ _ (omega arith))
 
-serve-requires : tie.Need-serve-requires
-serve-requires c κs = search needs
-
-more-requires : tie.Need-more-requires
-more-requires c κs = search needs
-
-same-length : tie.Need-same-length
-same-length c = search needs
-
-returns : tie.Need-returns
-returns c = search needs
-
 rest-requires : tie.Need-rest-requires
 rest-requires c κs = (served-sound (c .before .before .before .serve .result) (c .before .before .before .before .before .before .before .before .pre .0) (c .before .before .before .serve .ensures), c .before .before .before .before .before .before .before .before .pre .1)
-
-same-length-2 : tie.Need-same-length-2
-same-length-2 c = search needs
 
 returns-2 : tie.Need-returns-2
 returns-2 c = (c .before .before .rest .ensures .0, c .before .before .rest .ensures .1, omega (arith, c .before .before .rest .ensures .2, printed-within (c .before .before .before .before .before .before .serve .ensures .printed)))
@@ -39,12 +21,12 @@ pub call-spec : {M : Type 1} → statement M
 call-spec =
     tie.close
     (tie.spec
-    slice-reshare-prefix-serve
+    (λ c. search needs)
     slice-aggregate-serve
-    serve-requires
-    more-requires
-    same-length
-    returns
+    (λ c κs. search needs)
+    (λ c κs. search needs)
+    (λ c. search needs)
+    (λ c. search needs)
     rest-requires
-    same-length-2
+    (λ c. search needs)
     returns-2)

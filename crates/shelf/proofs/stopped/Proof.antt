@@ -5,11 +5,8 @@ use mathlib.Core.Path.{refl}
 use Rattle.shelf.proofs.stopped.Statement.{statement}
 use Rattle.shelf.proofs.stopped.Tie as tie
 
-say-requires : tie.Need-say-requires
-say-requires c κs = search needs
-
 returns : tie.Need-returns
 returns c = (c .before .before .pre, refl, printed-within (c .say .ensures))
 
 pub stopped-spec : {M : Type 1} → statement M
-stopped-spec = tie.close (tie.spec say-requires returns)
+stopped-spec = tie.close (tie.spec (λ c κs. search needs) returns)

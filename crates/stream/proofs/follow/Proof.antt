@@ -6,26 +6,14 @@ use mathlib.Core.Path.{refl}
 use Rattle.stream.proofs.follow.Statement.{statement}
 use Rattle.stream.proofs.follow.Tie as tie
 
-rent-requires : tie.Need-rent-requires
-rent-requires c κs = search needs
-
 returns : tie.Need-returns
 returns c = first _ _ _ (c .before .if1 .taken) (c .rent .ensures)
-
-settings-requires : tie.Need-settings-requires
-settings-requires c κs = search needs
 
 returns-2 : tie.Need-returns-2
 returns-2 c = second _ _ _ (c .before .before .if1 .left) (c .before .if2 .taken) (c .settings .ensures)
 
-request-requires : tie.Need-request-requires
-request-requires c κs = search needs
-
 returns-3 : tie.Need-returns-3
 returns-3 c = third _ _ _ (c .before .before .before .if1 .left) (c .before .before .if2 .left) (c .before .if3 .taken) (c .request .ensures)
-
-give-back-requires : tie.Need-give-back-requires
-give-back-requires c κs = search needs
 
 returns-4 : tie.Need-returns-4
 returns-4 c = fourth _ _ _ (c .before .before .before .before .if1 .left) (c .before .before .before .if2 .left) (c .before .before .if3 .left) (c .before .if4 .taken) (c .give-back .ensures)
@@ -38,12 +26,12 @@ pub follow-spec : {M : Type 1} → statement M
 follow-spec =
     tie.close
     (tie.spec
-    rent-requires
+    (λ c κs. search needs)
     returns
-    settings-requires
+    (λ c κs. search needs)
     returns-2
-    request-requires
+    (λ c κs. search needs)
     returns-3
-    give-back-requires
+    (λ c κs. search needs)
     returns-4
     returns-5)

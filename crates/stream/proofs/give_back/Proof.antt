@@ -5,15 +5,6 @@ use Rattle.field.proofs.Readers.{told-got, told-refused}
 use Rattle.stream.proofs.give_back.Statement.{statement}
 use Rattle.stream.proofs.give_back.Tie as tie
 
-any-requires : tie.Need-any-requires
-any-requires c κs = search needs
-
-enum-known-t : tie.Need-enum-known-t
-enum-known-t c = search needs
-
-enum-known-e : tie.Need-enum-known-e
-enum-known-e c = search needs
-
 returns : tie.Need-returns
 returns c = return-framed _ _ _ _ (told-got (c .before .before .before .any .ensures) (c .before .t .given .1))
 
@@ -24,8 +15,8 @@ pub give-back-spec : {M : Type 1} → statement M
 give-back-spec =
     tie.close
     (tie.spec
-    any-requires
-    enum-known-t
-    enum-known-e
+    (λ c κs. search needs)
+    (λ c. search needs)
+    (λ c. search needs)
     returns
     returns-2)

@@ -5,18 +5,6 @@ use Rattle.field.proofs.Readers.{told-got, told-refused}
 use Rattle.stream.proofs.read_call.Statement.{statement}
 use Rattle.stream.proofs.read_call.Tie as tie
 
-any-requires : tie.Need-any-requires
-any-requires c κs = search needs
-
-enum-known-call : tie.Need-enum-known-call
-enum-known-call c = search needs
-
-follow-requires : tie.Need-follow-requires
-follow-requires c κs = search needs
-
-enum-known-e : tie.Need-enum-known-e
-enum-known-e c = search needs
-
 returns : tie.Need-returns
 returns c = call-framed _ _ (told-got (c .before .before .before .before .any .ensures) (c .before .before .call .given .1)) (c .follow .ensures)
 
@@ -26,4 +14,4 @@ returns-2 c = call-stops _ (told-refused (c .before .before .before .any .ensure
 pub read-call-spec : {M : Type 1} → statement M
 read-call-spec =
     tie.close
-    (tie.spec any-requires enum-known-call follow-requires enum-known-e returns returns-2)
+    (tie.spec (λ c κs. search needs) (λ c. search needs) (λ c κs. search needs) (λ c. search needs) returns returns-2)

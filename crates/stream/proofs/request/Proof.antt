@@ -5,27 +5,6 @@ use Rattle.field.proofs.Readers.{told-got, told-refused}
 use Rattle.stream.proofs.request.Statement.{statement}
 use Rattle.stream.proofs.request.Tie as tie
 
-ranged-requires : tie.Need-ranged-requires
-ranged-requires c κs = search needs
-
-enum-known-room : tie.Need-enum-known-room
-enum-known-room c = search needs
-
-sheet-requires : tie.Need-sheet-requires
-sheet-requires c κs = search needs
-
-enum-known-from : tie.Need-enum-known-from
-enum-known-from c = search needs
-
-cast-t13 : tie.Need-cast-t13
-cast-t13 c = search needs
-
-enum-known-e : tie.Need-enum-known-e
-enum-known-e c = search needs
-
-enum-known-e-2 : tie.Need-enum-known-e-2
-enum-known-e-2 c = search needs
-
 returns : tie.Need-returns
 returns c = request-framed _ _ _ _ _ _ (told-got (c .before .before .before .before .before .before .before .ranged .ensures) (c .before .before .before .before .before .room .given .1)) (spans-part (c .before .before .before .sheet .ensures) (c .before .from .given .1))
 
@@ -39,13 +18,13 @@ pub request-spec : {M : Type 1} → statement M
 request-spec =
     tie.close
     (tie.spec
-    ranged-requires
-    enum-known-room
-    sheet-requires
-    enum-known-from
-    cast-t13
-    enum-known-e
-    enum-known-e-2
+    (λ c κs. search needs)
+    (λ c. search needs)
+    (λ c κs. search needs)
+    (λ c. search needs)
+    (λ c. search needs)
+    (λ c. search needs)
+    (λ c. search needs)
     returns
     returns-2
     returns-3)

@@ -8,12 +8,6 @@ use Rattle.field.specs.Refusal.{numberOf}
 use Rattle.stream.proofs.sheet.Statement.{statement}
 use Rattle.stream.proofs.sheet.Tie as tie
 
-any-requires : tie.Need-any-requires
-any-requires c κs = search needs
-
-enum-known-n : tie.Need-enum-known-n
-enum-known-n c = search needs
-
 returns : tie.Need-returns
 unfolding Spans numberOf
 returns c = sheet-large _ _ _ _ (told-got (c .before .before .before .before .any .ensures) (c .before .before .n .given .1)) (c .if1 .taken)
@@ -21,21 +15,12 @@ returns c = sheet-large _ _ _ _ (told-got (c .before .before .before .before .an
 sub-if2 : tie.Need-sub-if2
 sub-if2 c = omega (arith, number-within _ _ _ _ (told-got (c .before .before .before .before .any .ensures) (c .before .before .n .given .1)))
 
-cast-if2 : tie.Need-cast-if2
-cast-if2 c = search needs
-
 returns-2 : tie.Need-returns-2
 unfolding Spans numberOf
 returns-2 c = sheet-past _ _ _ _ (told-got (c .before .before .before .before .before .any .ensures) (c .before .before .before .n .given .1)) (c .before .if1 .left) (c .if2 .taken)
 
-cast-t10 : tie.Need-cast-t10
-cast-t10 c = search needs
-
 add-t11 : tie.Need-add-t11
 add-t11 c = omega (arith, number-within _ _ _ _ (told-got (c .before .before .before .before .before .any .ensures) (c .before .before .before .n .given .1)))
-
-enum-known-e : tie.Need-enum-known-e
-enum-known-e c = search needs
 
 returns-3 : tie.Need-returns-3
 returns-3 c = sheet-spans _ _ _ _ (told-got (c .before .before .before .before .before .any .ensures) (c .before .before .before .n .given .1)) (c .before .if1 .left) (c .if2 .left)
@@ -48,14 +33,14 @@ pub sheet-spec : {M : Type 1} → statement M
 sheet-spec =
     tie.close
     (tie.spec
-    any-requires
-    enum-known-n
+    (λ c κs. search needs)
+    (λ c. search needs)
     returns
     sub-if2
-    cast-if2
+    (λ c. search needs)
     returns-2
-    cast-t10
+    (λ c. search needs)
     add-t11
-    enum-known-e
+    (λ c. search needs)
     returns-3
     returns-4)

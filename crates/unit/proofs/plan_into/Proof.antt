@@ -8,12 +8,6 @@ use mathlib.Core.Path.{sym}
 use Rattle.unit.proofs.plan_into.Statement.{statement}
 use Rattle.unit.proofs.plan_into.Tie as tie
 
-columns-requires : tie.Need-columns-requires
-columns-requires c κs = search needs
-
-cast-n : tie.Need-cast-n
-cast-n c = search needs
-
 array-share-prefix-costs : tie.Need-array-share-prefix-costs
 array-share-prefix-costs c = column-room _ _ _ (c .before .before .before .before .before .before .pre .filled) (c .before .columns .ensures .0)
 
@@ -26,26 +20,8 @@ array-share-prefix-starts c = column-room _ _ _ (c .before .before .before .befo
 slice-aggregate-plan-2 : tie.Need-slice-aggregate-plan-2
 slice-aggregate-plan-2 c = sym (length-take-le _ _ (column-room _ _ _ (c .before .before .before .before .before .before .before .before .pre .filled) (c .before .before .before .columns .ensures .1)))
 
-slice-aggregate-plan-3 : tie.Need-slice-aggregate-plan-3
-slice-aggregate-plan-3 c = search needs
-
-slice-aggregate-plan-4 : tie.Need-slice-aggregate-plan-4
-slice-aggregate-plan-4 c = search needs
-
 plan-requires : tie.Need-plan-requires
 plan-requires c κs = lent-ready _ _ _ _ (c .before .before .before .before .before .before .before .before .before .before .pre) (c .before .before .before .before .before .columns .ensures .0) (c .before .before .before .before .before .columns .ensures .1) (replicate 1024 0) (replicate 1024 0) (length-replicate {A = ℕ} 1024 0) (length-replicate {A = ℕ} 1024 0)
-
-slice-aggregate-send : tie.Need-slice-aggregate-send
-slice-aggregate-send c = search needs
-
-slice-aggregate-send-2 : tie.Need-slice-aggregate-send-2
-slice-aggregate-send-2 c = search needs
-
-send-requires : tie.Need-send-requires
-send-requires c κs = search needs
-
-same-length : tie.Need-same-length
-same-length c = search needs
 
 returns : tie.Need-returns
 returns c = lent-sheeted _ _ _ _ (c .before .before .before .before .before .before .before .before .before .before .before .before .before .before .before .before .before .before .before .pre) (c .before .before .before .before .before .before .before .before .before .before .before .before .before .before .columns .ensures .0) (c .before .before .before .before .before .before .before .before .before .before .before .before .before .before .columns .ensures .1) _ _ _ (c .before .before .before .before .before .before .before .before .plan .ensures) _ _ _ _ _ (c .before .before .send .ensures)
@@ -54,17 +30,17 @@ pub plan-into-spec : {M : Type 1} → statement M
 plan-into-spec =
     tie.close
     (tie.spec
-    columns-requires
-    cast-n
+    (λ c κs. search needs)
+    (λ c. search needs)
     array-share-prefix-costs
     slice-aggregate-plan
     array-share-prefix-starts
     slice-aggregate-plan-2
-    slice-aggregate-plan-3
-    slice-aggregate-plan-4
+    (λ c. search needs)
+    (λ c. search needs)
     plan-requires
-    slice-aggregate-send
-    slice-aggregate-send-2
-    send-requires
-    same-length
+    (λ c. search needs)
+    (λ c. search needs)
+    (λ c κs. search needs)
+    (λ c. search needs)
     returns)

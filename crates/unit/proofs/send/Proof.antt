@@ -12,16 +12,10 @@ slice-aggregate-write c = sym (length-take-le _ _ (omega arith))
 slice-aggregate-write-2 : tie.Need-slice-aggregate-write-2
 slice-aggregate-write-2 c = sym (length-take-le _ _ (omega arith))
 
-write-requires : tie.Need-write-requires
-write-requires c κs = search needs
-
-same-length : tie.Need-same-length
-same-length c = search needs
-
 returns : tie.Need-returns
 returns c = c .before .before .write .ensures
 
 pub send-spec : {M : Type 1} → statement M
 send-spec =
     tie.close
-    (tie.spec slice-aggregate-write slice-aggregate-write-2 write-requires same-length returns)
+    (tie.spec slice-aggregate-write slice-aggregate-write-2 (λ c κs. search needs) (λ c. search needs) returns)

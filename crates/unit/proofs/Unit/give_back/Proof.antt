@@ -9,9 +9,6 @@ use mathlib.Core.Path.{sym, _∙_}
 use Rattle.unit.proofs.Unit.give_back.Statement.{statement}
 use Rattle.unit.proofs.Unit.give_back.Tie as tie
 
-empty-requires : tie.Need-empty-requires
-empty-requires c κs = search needs
-
 returns : tie.Need-returns
 unfolding told toldAnswer takes
 returns c = sym (back-anew _ _ (c .before .before .before .if1 .taken) (c .before .if2 .taken) _ (c .empty .ensures))
@@ -25,4 +22,4 @@ unfolding told toldAnswer refuses numberOf
 returns-3 c = sym (back-free _ _ (c .if1 .left))
 
 pub give-back-spec : {M : Type 1} → statement M
-give-back-spec = tie.close (tie.spec empty-requires returns returns-2 returns-3)
+give-back-spec = tie.close (tie.spec (λ c κs. search needs) returns returns-2 returns-3)

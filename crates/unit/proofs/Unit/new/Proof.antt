@@ -4,11 +4,8 @@ use Rattle.unit.proofs.Lives.{new-anew}
 use Rattle.unit.proofs.Unit.new.Statement.{statement}
 use Rattle.unit.proofs.Unit.new.Tie as tie
 
-empty-requires : tie.Need-empty-requires
-empty-requires c κs = search needs
-
 returns : tie.Need-returns
 returns c = new-anew _ _ (c .empty .ensures)
 
 pub new-spec : {M : Type 1} → statement M
-new-spec = tie.close (tie.spec empty-requires returns)
+new-spec = tie.close (tie.spec (λ c κs. search needs) returns)

@@ -17,12 +17,9 @@ returns-2 : tie.Need-returns-2
 unfolding told toldAnswer refuses numberOf
 returns-2 c = sym (rent-low _ _ (c .before .before .if1 .left) (c .if2 .taken))
 
-empty-requires : tie.Need-empty-requires
-empty-requires c κs = search needs
-
 returns-3 : tie.Need-returns-3
 unfolding told toldAnswer takes
 returns-3 c = sym (rent-anew _ _ (c .before .before .before .if1 .left) (c .before .if2 .left) _ (c .empty .ensures))
 
 pub rent-spec : {M : Type 1} → statement M
-rent-spec = tie.close (tie.spec returns returns-2 empty-requires returns-3)
+rent-spec = tie.close (tie.spec returns returns-2 (λ c κs. search needs) returns-3)

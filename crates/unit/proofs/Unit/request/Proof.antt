@@ -5,15 +5,6 @@ use mathlib.Core.Path.{sym}
 use Rattle.unit.proofs.Unit.request.Statement.{statement}
 use Rattle.unit.proofs.Unit.request.Tie as tie
 
-tenancy-requires : tie.Need-tenancy-requires
-tenancy-requires c κs = search needs
-
-read-requires : tie.Need-read-requires
-read-requires c κs = search needs
-
-enum-known-answer : tie.Need-enum-known-answer
-enum-known-answer c = search needs
-
 array-share-prefix-copies : tie.Need-array-share-prefix-copies
 array-share-prefix-copies c = asked-fits _ (c .before .before .before .before .before .before .before .before .before .pre) _ (c .before .before .before .before .before .tenancy .ensures) _ _ (c .before .before .before .before .read .ensures) _ (c .before .before .answer .given .1)
 
@@ -22,12 +13,6 @@ slice-aggregate-plan-into c = sym (asked-count _ (c .before .before .before .bef
 
 plan-into-requires : tie.Need-plan-into-requires
 plan-into-requires c κs = plannable _ (c .before .before .before .before .before .before .before .before .before .before .before .pre) _ (c .before .before .before .before .before .before .before .tenancy .ensures) _ _ (c .before .before .before .before .before .before .read .ensures) _ (c .before .before .before .before .answer .given .1)
-
-enum-known-answer-2 : tie.Need-enum-known-answer-2
-enum-known-answer-2 c = search needs
-
-same-length : tie.Need-same-length
-same-length c = search needs
 
 returns : tie.Need-returns
 returns c = answered _ (c .before .before .before .before .before .before .before .before .before .before .before .before .before .before .pre) _ (c .before .before .before .before .before .before .before .before .before .before .tenancy .ensures) _ _ (c .before .before .before .before .before .before .before .before .before .read .ensures) _ (c .before .before .before .before .before .before .before .answer .given .1) _ _ _ (c .before .before .plan-into .ensures)
@@ -39,13 +24,13 @@ pub request-spec : {M : Type 1} → statement M
 request-spec =
     tie.close
     (tie.spec
-    tenancy-requires
-    read-requires
-    enum-known-answer
+    (λ c κs. search needs)
+    (λ c κs. search needs)
+    (λ c. search needs)
     array-share-prefix-copies
     slice-aggregate-plan-into
     plan-into-requires
-    enum-known-answer-2
-    same-length
+    (λ c. search needs)
+    (λ c. search needs)
     returns
     returns-2)

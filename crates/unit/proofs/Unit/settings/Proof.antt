@@ -8,17 +8,8 @@ use mathlib.Core.Path.{sym, _∙_}
 use Rattle.unit.proofs.Unit.settings.Statement.{statement}
 use Rattle.unit.proofs.Unit.settings.Tie as tie
 
-tenancy-requires : tie.Need-tenancy-requires
-tenancy-requires c κs = search needs
-
-read-requires : tie.Need-read-requires
-read-requires c κs = search needs
-
 enum-told : tie.Need-enum-told
 enum-told c = search needs
-
-enum-known-answer : tie.Need-enum-known-answer
-enum-known-answer c = search needs
 
 returns : tie.Need-returns
 unfolding told toldAnswer takes withTable
@@ -31,4 +22,4 @@ returns-2 c = sym (set-found _ _ _ (c .before .before .before .before .tenancy .
 pub settings-spec : {M : Type 1} → statement M
 settings-spec =
     tie.close
-    (tie.spec tenancy-requires read-requires enum-told enum-known-answer returns returns-2)
+    (tie.spec (λ c κs. search needs) (λ c κs. search needs) enum-told (λ c. search needs) returns returns-2)
