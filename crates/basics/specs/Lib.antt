@@ -1,1 +1,5 @@
 pub mod Limits
+pub mod Choice
+pub mod Count
+pub mod Lists
+pub mod Buffer

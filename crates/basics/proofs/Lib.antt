@@ -1,0 +1,5 @@
+pub mod Tests
+pub mod Choice
+pub mod Count
+pub mod Lists
+pub mod Buffer
