@@ -5,8 +5,8 @@
 --     rising-same      two rising lists of the same numbers are the same
 use Prim.Native.Nat.{ℕ, zero, suc, _+_, _≤_, _<_}
 use mathlib.Core.Path.{_≡_, refl, sym, ap, _∙_, subst}
-use mathlib.Core.Bool.{Bool, true, false, _||_, or-assoc, or-false}
-use mathlib.Core.Logic.{_⊎_, inl, inr, ⊎-elim}
+use mathlib.Core.Bool.{Bool, true, false, _||_}
+use mathlib.Core.Logic.{⊎-elim}
 use mathlib.Core.List.{List, [], _∷_}
 use native.Mathlib.Omega.{arith}
 use borrow.Author.Tests.{eq-eqb, ne-eqb, eqb-true, eqb-false}
@@ -15,7 +15,7 @@ use lib.ListN.{length, getD, take, replicate}
 use lib.Seq.{getD-take, length-take-le}
 use Rattle.basics.specs.Count.{any}
 use Rattle.basics.specs.Lists.{All, Rises, listed}
-use Rattle.basics.proofs.Tests.{by-cases, below-or, differ, or-elim, or-left, or-right}
+use Rattle.basics.proofs.Tests.{by-cases, below-or, differ, or-elim, or-right}
 use Rattle.basics.proofs.Count.{any-ext, any-front}
 
 pub replicate-at : {A : Type 0} (a : A) (n i : ℕ) → getD (replicate n a) i a ≡ a

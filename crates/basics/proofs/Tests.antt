@@ -1,7 +1,7 @@
 -- Tests: what passes or fails, and two joined.
 --     by-cases, below-or, lt-or-le, below-suc     a test passes or fails; a number is below another, or is not
 --     differ, not-here, same-test      no test does both; one that can't pass fails; two that imply one another are equal
---     and-left, and-right, and-both, first-false, second-false     both of two tests
+--     and-left, and-right, both, and-both, first-false, second-false     both of two tests
 --     or-elim, or-left, or-right, or-neither     one of two tests
 use Prim.Native.Nat.{ℕ, suc, _≤_, _<_}
 use mathlib.Core.Path.{_≡_, refl, sym, _∙_}
@@ -46,6 +46,9 @@ and-left false b e = e
 pub and-right : (a b : Bool) → (a && b) ≡ true → b ≡ true
 and-right true b e = e
 and-right false b e = absurd (differ e refl)
+
+pub both : (a b : Bool) → (a && b) ≡ true → (a ≡ true) × (b ≡ true)
+both a b e = (and-left a b e, and-right a b e)
 
 pub and-both : (a b : Bool) → a ≡ true → b ≡ true → (a && b) ≡ true
 and-both true b p q = q

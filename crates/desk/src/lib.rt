@@ -7,7 +7,7 @@ ghost use lib.ListN.{length, take, replicate};
 ghost use Rattle.field.specs.Put.{spellAll};
 ghost use Rattle.field.specs.Send.{toldWritten, Sent};
 ghost use Rattle.settings.specs.Draft.{settingsDraft};
-ghost use Rattle.plan.specs.Receive.{over};
+ghost use Rattle.basics.specs.Buffer.{over};
 ghost use Rattle.plan.specs.Told.{toldPlan};
 ghost use Rattle.desk.specs.Numbers.{numberAt, bytesOf, numbers, usable, Room};
 ghost use Rattle.desk.specs.Packed.{writerAnswer, readerAnswer, Short, Small};

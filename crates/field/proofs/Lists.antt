@@ -4,17 +4,16 @@
 --     ascending-start, ascending-step, ascending-stop, ascending-done     the same, each number above the one before it
 --     reads-times, reads-ascending      reading what was written
 --     times-spelt, ascending-spelt      the bytes of what was read
---     replicate-at          a list of one value
 use mathlib.Core.Path.{_≡_, refl, sym, ap, _∙_, subst}
 use mathlib.Core.List.{List, [], _∷_, _++_, append-assoc, append-nil}
 use Prim.Native.Nat.{ℕ, zero, suc, _+_, _-_, _^_, _≤_, _<_}
 use native.Mathlib.Omega.{arith}
-use lib.ListN.{length, getD, replicate}
+use lib.ListN.{length}
 use Rattle.number.specs.Bytes.{Bytes}
 use Rattle.number.specs.Encode.{encode}
 use Rattle.field.specs.Sheet.{Out, got, refused, Parser, andThen, _>>=_, pure, times}
 use Rattle.field.specs.Field.{rising, ascending}
-use Rattle.field.specs.Lists.{All, Rises}
+use Rattle.basics.specs.Lists.{All, Rises}
 use Rattle.field.specs.Put.{spellAll}
 use Rattle.field.proofs.Sheet.{next, stops, Step, bind-got, pure-got}
 use Rattle.field.proofs.Read.{Reads, reads-bind, reads-checked, reads-pure, reads-rising}
@@ -146,10 +145,3 @@ ascending-spelt high s b (suc n) floor at vs e l h =
     let g : Spelt s (w .mid) (u .mid) (spellAll encode (u .found)) × (length (u .found) ≡ n) × Rises (w .found + 1) high (u .found) = ascending-spelt high s b n (w .found + 1) (w .mid) (u .found) (u .mid) (f .0 .within) (u .first) in
     moved (λ z k. Spelt s at k (spellAll encode z) × (length z ≡ suc n) × Rises floor high z) (q .0) (q .1)
     (spelt-join (f .0) (g .0), ap suc (g .1), (f .2, f .1, g .2))
-
--- ---- a list of one value holds it everywhere
-
-pub replicate-at : {A : Type 0} (a : A) (n i : ℕ) → getD (replicate n a) i a ≡ a
-replicate-at a zero i = refl
-replicate-at a (suc n) zero = refl
-replicate-at a (suc n) (suc i) = replicate-at a n i

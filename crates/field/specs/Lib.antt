@@ -2,6 +2,5 @@ pub mod Refusal
 pub mod Sheet
 pub mod Field
 pub mod Told
-pub mod Lists
 pub mod Put
 pub mod Send

@@ -6,10 +6,10 @@ use mathlib.Core.Path.{_≡_}
 use mathlib.Core.List.{List}
 use lib.ListN.{length}
 use lib.Dec.{leb}
-use Rattle.number.specs.Choice.{pick}
+use Rattle.basics.specs.Choice.{pick}
 use Rattle.field.specs.declared.Written.{Written}
 use Rattle.field.specs.declared.Written.the-variants.{Length, Refused}
-use Rattle.field.specs.Put.{paste}
+use Rattle.basics.specs.Buffer.{over}
 use Rattle.field.specs.Refusal.{numberOf}
 use Rattle.field.specs.Sheet.{Out, got, refused}
 
@@ -29,7 +29,7 @@ answerTo (none e) out = refused e
 
 -- the sheet stands at the start of the buffer; on refusal nothing has changed
 unfoldable pub leftBy : Draft → List ℕ → List ℕ
-leftBy (sheet bs) out = pick (leb (length bs) (length out)) (paste out 0 bs) out
+leftBy (sheet bs) out = pick (leb (length bs) (length out)) (over bs out) out
 leftBy (none e) out = out
 
 pub record Sent (d : Draft) (out : List ℕ) (r : Written) (after : List ℕ) : Type 0 where

@@ -1,5 +1,3 @@
-pub mod Bool
-pub mod Sum
 pub mod Capacity
 pub mod Duality
 pub mod Time

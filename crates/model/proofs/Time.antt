@@ -1,5 +1,4 @@
 -- The certificate: a schedule in time R and a set short at R - 1 make R the least time, and the greatest earliest time of any set (demand 3).
---     below-or                 a number is below another, or is not
 --     in-time, roomAt-grows    a schedule done by t leaves no set short at t; a later time has no less room
 --     short-after, short-later a set short at t holds every schedule, and its own earliest time, back beyond t
 --     Certificate              a schedule in time R and a set short at R - 1
@@ -11,18 +10,12 @@ use mathlib.Core.Path.{_≡_, _∙_}
 use mathlib.Core.Bool.{Bool}
 use native.Mathlib.Nat.{le-antisymm}
 use native.Mathlib.Omega.{arith}
-use lib.Dec.{ltb}
-use borrow.Author.Tests.{ltb-true, ltb-false}
 use Rattle.model.specs.Case.{Case, Priced, Schedule, response, capacityAt}
 use Rattle.model.specs.Shortfall.{Short}
 use Rattle.model.specs.Time.{LeastTime, members, roomAt, ShortAt, Earliest, GreatestEarliest}
-use Rattle.model.proofs.Bool.{by-cases}
+use Rattle.basics.proofs.Tests.{below-or}
 use Rattle.model.proofs.Capacity.{response-within, capacityAt-grows}
 use Rattle.model.proofs.Duality.{weak-duality, room-grows}
-
--- a number is below another, or is not
-pub below-or {ℓ} : {C : Type ℓ} (x y : ℕ) → (x < y → C) → (y ≤ x → C) → C
-below-or x y f g = by-cases (ltb x y) (λ e. f (ltb-true x y e)) (λ e. g (ltb-false x y e))
 
 -- within time t no set is short at t
 pub in-time : (m : Case) (a : ℕ → ℕ) (t : ℕ) → Priced m → Schedule m a → response m a ≤ t

@@ -5,10 +5,9 @@
 --     table      P1 to P9
 use Prim.Native.Nat.{ℕ}
 use mathlib.Core.Path.{_≡_}
-use mathlib.Core.Bool.{Bool, false, _||_}
 use mathlib.Core.List.{List, [], _∷_, map}
-use lib.Dec.{eqb}
 use lib.ListN.{length, getD}
+use Rattle.basics.specs.Lists.{listed}
 use Rattle.model.specs.Case.{Case, base, capacityAt}
 use Rattle.model.specs.Shortfall.{size}
 use Rattle.model.specs.Plan.{Optimal}
@@ -20,22 +19,17 @@ pub data Figure : Type 0 where
   -- a disk, some times, its capacity at each
   capacities : ℕ → List ℕ → List ℕ → Figure
 
--- whether a number is on a list
-unfoldable pub isOn : List ℕ → ℕ → Bool
-isOn [] x = false
-isOn (y ∷ l) x = eqb x y || isOn l x
-
 -- disk 0: cost 4, load 0, delay 1; disk 1: cost 3, load 2, delay 0; disk 2: cost 10, load 0, delay 0
 unfoldable pub asked : List (List ℕ) → Case
 asked copies =
     base 3 (length copies) (λ d. getD (4 ∷ 3 ∷ 10 ∷ []) d 0) (λ d. getD (0 ∷ 2 ∷ 0 ∷ []) d 0) (λ d. getD (1 ∷ 0 ∷ 0 ∷ []) d 0)
-    (λ b d. isOn (getD copies b []) d)
+    (λ b d. listed (getD copies b []) d)
 
 -- a request's plan, with a disk for each block and as many entries in the short set as it has blocks
 pub record Answer (copies : List (List ℕ)) (R : ℕ) (disks short : List ℕ) : Type 0 where
-  pub plan : Optimal (asked copies) R (λ b. getD disks b 0) (isOn short)
+  pub plan : Optimal (asked copies) R (λ b. getD disks b 0) (listed short)
   pub every-block : length disks ≡ length copies
-  pub no-other : length short ≡ size (length copies) (isOn short)
+  pub no-other : length short ≡ size (length copies) (listed short)
 
 -- what a figure says of the model
 unfoldable pub Holds : Figure → Type 0

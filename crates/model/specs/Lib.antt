@@ -1,4 +1,3 @@
-pub mod Count
 pub mod Assignment
 pub mod Capacity
 pub mod Case

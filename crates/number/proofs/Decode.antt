@@ -1,17 +1,15 @@
 -- Laws of `decode` and `more`: what they are where bytes are left and where none are, and how large a value is.
 use mathlib.Core.Path.{_≡_, refl, sym, ap, _∙_}
-use mathlib.Core.Bool.{Bool, true, false}
-use mathlib.Core.List.{List, [], _∷_, _++_}
-use Prim.Native.Nat.{ℕ, zero, suc, _+_, _*_, _-_, _/_, _%_, _^_, _≤_, _<_}
+use mathlib.Core.List.{List, [], _∷_}
+use Prim.Native.Nat.{ℕ, zero, suc, _*_, _-_, _^_, _≤_, _<_}
 use native.Mathlib.Omega.{arith}
 use borrow.Author.Tests.{eq-eqb, ne-eqb, lt-ltb, le-ltb, ltb-true}
 use lib.ListN.{length, take, drop, getD}
-use lib.Dec.{ltb, eqb, lit<}
+use lib.Dec.{lit<}
 use native.Mathlib.Nat.{pow-suc, one-le-pow, pow-le-pow-right}
-use Rattle.number.specs.Choice.{pick}
 use Rattle.number.specs.Decode.{Decoded, value, refused, under, more, decode}
-use Rattle.number.proofs.Choice.{pick-true, pick-false, pick-elim}
-use Rattle.number.proofs.Part.{rest}
+use Rattle.basics.proofs.Choice.{pick-true, pick-false, pick-elim}
+use Rattle.basics.proofs.Buffer.{rest}
 
 -- ---- decode, by its first byte
 

@@ -1,17 +1,19 @@
 -- Laws of `encode`: its groups one by one, its width, and what a write leaves in a buffer.
-use mathlib.Core.Path.{_≡_, sym, ap, _∙_}
+use mathlib.Core.Path.{_≡_, refl, sym, ap, _∙_}
 use mathlib.Core.List.{List, [], _∷_, _++_}
 use Prim.Native.Nat.{ℕ, zero, suc, _+_, _-_, _/_, _%_, _^_, _≤_, _<_}
 use native.Mathlib.Omega.{arith}
 use native.Mathlib.Nat.{pow-suc}
 use borrow.Author.Tests.{lt-ltb, le-ltb, ltb-true, ltb-false, le-leb, lt-leb, leb-true, leb-false}
 use lib.Dec.{ltb, leb}
-use lib.ListN.{length, take, drop, set}
-use Rattle.number.specs.Choice.{pick}
-use Rattle.number.specs.Encode.{encodeBy, encode, widthOf, fits, written, putFirst, Wrote}
+use lib.ListN.{length, take, drop, set, length-drop, take-append-drop}
+use Rattle.basics.specs.Choice.{pick}
+use Rattle.basics.specs.Buffer.{over}
+use Rattle.number.specs.Encode.{encodeBy, encode, widthOf, fits, written, putFirst, WroteNumber}
 use borrow.Rule.Slice.PartMut.{putMid}
-use Rattle.number.proofs.Part.{rest, put-rest}
-use Rattle.number.proofs.Choice.{pick-true, pick-false, pick-elim, either}
+use Rattle.basics.proofs.Buffer.{rest, put-rest}
+use Rattle.basics.proofs.Choice.{pick-true, pick-false, pick-elim}
+use Rattle.basics.proofs.Tests.{by-cases}
 
 -- ---- the groups of a number
 
@@ -48,7 +50,7 @@ width-more v h l = ap length (encode-more v h l)
 pub width-top : (k v : ℕ) → v < 2 ^ 32 → v < 128 ^ suc k → widthOf v ≤ suc k
 width-top zero v l h = omega (arith, width-one v h)
 width-top (suc k) v l h =
-    either (ltb v 128)
+    by-cases (ltb v 128)
     (λ t. omega (arith, width-one v (ltb-true v 128 t)))
     (λ f. omega (arith, width-more v (ltb-false v 128 f) l, width-top k (v / 128) (omega arith) (omega (arith, pow-suc 128 (suc k)))))
 
@@ -68,67 +70,70 @@ width-bounds v = width-by 4 v
 -- ---- what a write leaves
 
 -- with room the number stands at the start
-pub wrote-room : (v : ℕ) (out : List ℕ) → widthOf v ≤ length out → Wrote v out (widthOf v) (encode v ++ drop (widthOf v) out)
+pub wrote-room : (v : ℕ) (out : List ℕ) → widthOf v ≤ length out → WroteNumber v out (widthOf v) (over (encode v) out)
 unfolding written putFirst fits
-wrote-room v out h = record { count = sym (pick-true _ _ (le-leb _ _ h)); left = sym (pick-true _ _ (le-leb _ _ h)) }
+wrote-room v out h = let t = le-leb _ _ h in record { count = sym (pick-true _ _ t); left = sym (pick-true _ _ t) }
 
 -- without it nothing has changed
-pub wrote-none : (v : ℕ) (out : List ℕ) → length out < widthOf v → Wrote v out 0 out
+pub wrote-none : (v : ℕ) (out : List ℕ) → length out < widthOf v → WroteNumber v out 0 out
 unfolding written putFirst fits
-wrote-none v out h = record { count = sym (pick-false _ _ (lt-leb _ _ h)); left = sym (pick-false _ _ (lt-leb _ _ h)) }
+wrote-none v out h = let t = lt-leb _ _ h in record { count = sym (pick-false _ _ t); left = sym (pick-false _ _ t) }
 
--- nothing was written: there was no room
-none-room : (v : ℕ) (out : List ℕ) → written v out ≡ 0 → length out < widthOf v
-unfolding written fits
-none-room v out e =
-    either (leb (widthOf v) (length out))
-    (λ t. absurd (omega (arith, sym (pick-true (widthOf v) 0 t) ∙ e, width-bounds v)))
-    (λ f. leb-false _ _ f)
-
--- something was: there was
-some-room : (v : ℕ) (out : List ℕ) → (written v out ≡ 0 → ⊥) → widthOf v ≤ length out
-unfolding written fits
-some-room v out e =
-    either (leb (widthOf v) (length out))
-    (λ t. leb-true _ _ t)
-    (λ f. absurd (e (pick-false (widthOf v) 0 f)))
+-- the one or the other
+pub wrote-cases : {C : Type 0} {v n : ℕ} {out after : List ℕ} → WroteNumber v out n after
+    → (widthOf v ≤ length out → n ≡ widthOf v → after ≡ over (encode v) out → C)
+    → (length out < widthOf v → n ≡ 0 → after ≡ out → C) → C
+wrote-cases {v = v} {out = out} w f g =
+    by-cases (leb (widthOf v) (length out))
+    (λ t. let h = leb-true _ _ t in let r = wrote-room v out h in f h (w .count ∙ sym (r .count)) (w .left ∙ sym (r .left)))
+    (λ t. let h = leb-false _ _ t in let r = wrote-none v out h in g h (w .count ∙ sym (r .count)) (w .left ∙ sym (r .left)))
 
 -- one byte is the whole number
-pub wrote-one : (v : ℕ) (out : List ℕ) → v < 128 → 0 < length out → Wrote v out 1 (set out 0 v)
+pub wrote-one : (v : ℕ) (out : List ℕ) → v < 128 → 0 < length out → WroteNumber v out 1 (set out 0 v)
+unfolding over
 wrote-one v [] h l = absurd (omega arith)
 wrote-one v (b ∷ s) h l =
-    let r : Wrote v (b ∷ s) (widthOf v) (encode v ++ drop (widthOf v) (b ∷ s)) = wrote-room v (b ∷ s) (omega (arith, width-one v h)) in
+    let r = wrote-room v (b ∷ s) (omega (arith, width-one v h)) in
     rw (encode-one v h, width-one v h) at r
 
--- the rest had no room, so the number has none
-pub wrote-rest-none : (v : ℕ) (out : List ℕ) (n : ℕ) (ys : List ℕ) → 128 ≤ v → v < 2 ^ 32 → 0 < length out
-    → Wrote (v / 128) (take (length out - 1) (drop 1 out)) n ys → n ≡ 0 → Wrote v out 0 (putMid 1 (length out - 1) out ys)
-wrote-rest-none v [] n ys h l p w z = absurd (omega arith)
-wrote-rest-none v (b ∷ s) n ys h l p w z =
-    let e : take (length (b ∷ s) - 1) (drop 1 (b ∷ s)) ≡ s = rest (b ∷ s) 1 in
-    let full : length s < widthOf (v / 128) = rw e at (none-room _ _ (sym (w .count) ∙ z)) in
-    let r : Wrote v (b ∷ s) 0 (b ∷ s) = wrote-none v (b ∷ s) (omega (arith, width-more v h l)) in
-    record { count = r .count; left = put-rest (b ∷ s) 1 ys ∙ ap (λ (t : List ℕ). b ∷ t) (w .left ∙ sym (wrote-none _ _ (none-room _ _ (sym (w .count) ∙ z)) .left) ∙ e) ∙ r .left }
+-- bytes behind the first
+behind : (b : ℕ) (xs out : List ℕ) → 0 < length out → set (take 1 out ++ over xs (drop 1 out)) 0 b ≡ over (b ∷ xs) out
+unfolding over
+behind b xs [] h = absurd (omega arith)
+behind b xs (c ∷ s) h = refl
 
--- the rest stands behind the first byte
-pub wrote-rest : (v : ℕ) (out : List ℕ) (n : ℕ) (ys : List ℕ) → 128 ≤ v → v < 2 ^ 32 → 0 < length out
-    → Wrote (v / 128) (take (length out - 1) (drop 1 out)) n ys → (n ≡ 0 → ⊥) → Wrote v out (n + 1) (set (putMid 1 (length out - 1) out ys) 0 (v % 128 + 128))
-wrote-rest v [] n ys h l p w z = absurd (omega arith)
-wrote-rest v (b ∷ s) n ys h l p w z =
-    let e : take (length (b ∷ s) - 1) (drop 1 (b ∷ s)) ≡ s = rest (b ∷ s) 1 in
-    let room : widthOf (v / 128) ≤ length s = rw e at (some-room _ _ (λ k. z (w .count ∙ k))) in
-    let here : Wrote (v / 128) s n ys = rw e at w in
-    let r : Wrote v (b ∷ s) (widthOf v) (encode v ++ drop (widthOf v) (b ∷ s)) = wrote-room v (b ∷ s) (omega (arith, width-more v h l)) in
-    let u : Wrote (v / 128) s (widthOf (v / 128)) (encode (v / 128) ++ drop (widthOf (v / 128)) s) = wrote-room (v / 128) s room in
-    record {
-      count = omega (arith, here .count, u .count, r .count, width-more v h l);
-      left = ap (λ (t : List ℕ). set t 0 (v % 128 + 128)) (put-rest (b ∷ s) 1 ys)
-          ∙ ap (λ (t : List ℕ). (v % 128 + 128) ∷ t) (here .left ∙ sym (u .left))
-          ∙ sym (ap (λ (x : List ℕ). x ++ drop (widthOf v) (b ∷ s)) (encode-more v h l) ∙ ap (λ (k : ℕ). ((v % 128 + 128) ∷ encode (v / 128)) ++ drop k (b ∷ s)) (width-more v h l))
-          ∙ r .left;
-    }
+-- a number of more than one byte, where the rest of it was written behind the first
+module _ (v n : ℕ) (out ys : List ℕ) (h : 128 ≤ v) (l : v < 2 ^ 32) (p : 0 < length out)
+    (w : WroteNumber (v / 128) (take (length out - 1) (drop 1 out)) n ys) where
+  rest-wrote : WroteNumber (v / 128) (drop 1 out) n ys
+  rest-wrote = rw rest at w
+
+  -- the rest had no room, so the number has none
+  pub wrote-rest-none : n ≡ 0 → WroteNumber v out 0 (putMid 1 (length out - 1) out ys)
+  wrote-rest-none z =
+      wrote-cases rest-wrote
+      (λ _ e _. absurd (omega (arith, width-bounds (v / 128))))
+      (λ full _ e.
+      let r = wrote-none v out (omega (arith, length-drop 1 out, width-more v h l)) in
+      record { count = r .count; left = put-rest out 1 ys ∙ ap (λ (t : List ℕ). take 1 out ++ t) e ∙ take-append-drop 1 out ∙ r .left })
+
+  -- the rest stands behind the first byte
+  pub wrote-rest : (n ≡ 0 → ⊥) → WroteNumber v out (n + 1) (set (putMid 1 (length out - 1) out ys) 0 (v % 128 + 128))
+  wrote-rest z =
+      wrote-cases rest-wrote
+      (λ room e q.
+      let r = wrote-room v out (omega (arith, length-drop 1 out, width-more v h l)) in
+      record {
+        count = omega (arith, width-more v h l, r .count);
+        left = ap (λ (t : List ℕ). set t 0 (v % 128 + 128)) (put-rest out 1 ys ∙ ap (λ (t : List ℕ). take 1 out ++ t) q)
+            ∙ behind _ _ out p ∙ ap (λ (x : List ℕ). over x out) (sym (encode-more v h l)) ∙ r .left;
+      })
+      (λ _ e _. absurd (z e))
 
 -- five bytes at the most were written
-pub wrote-small : {v : ℕ} {out : List ℕ} {n : ℕ} {after : List ℕ} → Wrote v out n after → n ≤ 5
-unfolding written
-wrote-small {v} w = rw (w .count) (pick-elim (λ (n : ℕ). n ≤ 5) _ _ _ (λ _. width-bounds v .1) (λ _. omega arith))
+pub wrote-small : {v : ℕ} {out : List ℕ} {n : ℕ} {after : List ℕ} → WroteNumber v out n after → n ≤ 5
+wrote-small {v} w = wrote-cases w (λ _ e _. omega (arith, width-bounds v)) (λ _ e _. omega arith)
+
+-- what was written lies within the buffer
+pub wrote-fits : {v : ℕ} {out : List ℕ} {n : ℕ} {after : List ℕ} → WroteNumber v out n after → n ≤ length out
+wrote-fits w = wrote-cases w (λ h e _. omega arith) (λ _ e _. omega arith)

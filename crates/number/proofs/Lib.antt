@@ -1,4 +1,3 @@
-pub mod Choice
 pub mod Part
 pub mod Decode
 pub mod Encode

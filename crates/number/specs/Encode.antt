@@ -2,10 +2,11 @@
 use Prim.Native.Nat.{ℕ, zero, suc, _+_, _/_, _%_}
 use mathlib.Core.Bool.{Bool}
 use mathlib.Core.Path.{_≡_}
-use mathlib.Core.List.{List, [], _∷_, _++_}
-use lib.ListN.{length, drop}
+use mathlib.Core.List.{List, [], _∷_}
+use lib.ListN.{length}
 use lib.Dec.{ltb, leb}
-use Rattle.number.specs.Choice.{pick}
+use Rattle.basics.specs.Choice.{pick}
+use Rattle.basics.specs.Buffer.{over}
 
 -- the groups of v, at most so many after the first
 unfoldable pub encodeBy : ℕ → ℕ → List ℕ
@@ -30,9 +31,9 @@ written v out = pick (fits v out) (widthOf v) 0
 
 -- the buffer with v at its start, or as it was where v has no room
 unfoldable pub putFirst : ℕ → List ℕ → List ℕ
-putFirst v out = pick (fits v out) (encode v ++ drop (widthOf v) out) out
+putFirst v out = pick (fits v out) (over (encode v) out) out
 
 -- v was written at the start of a buffer: so many bytes, and what the buffer then holds
-pub record Wrote (v : ℕ) (out : List ℕ) (n : ℕ) (after : List ℕ) : Type 0 where
+pub record WroteNumber (v : ℕ) (out : List ℕ) (n : ℕ) (after : List ℕ) : Type 0 where
   pub count : n ≡ written v out
   pub left : after ≡ putFirst v out

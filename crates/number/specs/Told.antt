@@ -1,6 +1,4 @@
 -- What each answer says, in the paper's numbers.
-use Prim.Native.Nat.{ℕ}
-use mathlib.Core.List.{List}
 use Rattle.number.specs.declared.Number.{Number}
 use Rattle.number.specs.declared.Number.the-variants.{Value, Ends, Malformed}
 use Rattle.number.specs.Decode.{Decoded, value, refused}

@@ -2,7 +2,6 @@ pub mod Filling
 pub mod Spell
 pub mod Adding
 pub mod Bounds
-pub mod Over
 pub mod Checking
 pub mod Receiving
 pub mod Drafting

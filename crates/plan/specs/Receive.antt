@@ -6,10 +6,11 @@
 use Prim.Native.Nat.{ℕ}
 use mathlib.Core.Bool.{Bool, _&&_}
 use mathlib.Core.Path.{_≡_}
-use mathlib.Core.List.{List, _++_}
-use lib.ListN.{length, drop}
+use mathlib.Core.List.{List}
+use lib.ListN.{length}
 use lib.Dec.{leb}
-use Rattle.number.specs.Choice.{pick}
+use Rattle.basics.specs.Choice.{pick}
+use Rattle.basics.specs.Buffer.{over}
 use Rattle.field.specs.Sheet.{Out, got, refused}
 use Rattle.plan.specs.declared.Head.{Head}
 use Rattle.plan.specs.declared.Answer.{Answer}
@@ -29,10 +30,6 @@ settle (refused n) disks short = refused n
 unfoldable pub heads : Out Plan → Out Head
 heads (got p e) = got (record { blocks = length (p .disks); time = p .time; size = length (p .short) }) e
 heads (refused n) = refused n
-
--- these entries first; the entries beyond them are as they were
-unfoldable pub over : List ℕ → List ℕ → List ℕ
-over xs list = xs ++ drop (length xs) list
 
 -- the list of disks afterwards: on refusal as it was
 unfoldable pub disksLeft : Out Plan → List ℕ → List ℕ

@@ -1,15 +1,14 @@
 -- A read request to a unit.
 --     startOf, caseOf     a disk's start; the case that a table and the copies of a request spell
---     listed              the set of blocks that a list of block numbers names
 --     PlanFor             a plan sheet's values are the plan of a table and a request
 --     Plannable, Sheeted  what the engine takes; the sheet of the plan was sent
 --     Replied, Answered   what is answered, and the buffer and the unit afterwards
 use Prim.Native.Nat.{ℕ, _+_, _≤_, _<_}
-use mathlib.Core.Bool.{Bool, true, false, _||_}
+use mathlib.Core.Bool.{true}
 use mathlib.Core.Path.{_≡_}
-use mathlib.Core.List.{List, [], _∷_}
-use lib.Dec.{eqb}
+use mathlib.Core.List.{List}
 use lib.ListN.{length, getD}
+use Rattle.basics.specs.Lists.{listed}
 use Rattle.mask.specs.Has.{has}
 use Rattle.model.specs.Case.{Case, base}
 use Rattle.model.specs.Plan.{Optimal}
@@ -36,11 +35,6 @@ unfoldable pub caseOf : Table → List ℕ → Case
 caseOf t copies =
     base (t .disks) (length copies) (λ d. getD (costs t) d 0) (λ d. getD (loads t) d 0) (λ d. getD (delays t) d 0)
     (λ b d. has (getD copies b 0) d)
-
--- whether block b is in a list
-unfoldable pub listed : List ℕ → ℕ → Bool
-listed [] b = false
-listed (x ∷ xs) b = eqb x b || listed xs b
 
 -- a disk for each block, and the rising numbers of the short set: the plan by the model, within the ranges of a plan sheet
 pub record PlanFor (t : Table) (copies : List ℕ) (p : Plan) : Type 0 where

@@ -2,17 +2,19 @@
 use Prim.Native.Nat.{ℕ, zero, suc, _+_, _≤_, _<_}
 use mathlib.Core.Bool.{Bool, or-false}
 use mathlib.Core.List.{List, [], _∷_}
-use mathlib.Core.Path.{_≡_, refl, ap₂, _∙_, fun-ext, subst}
+use mathlib.Core.Path.{_≡_, refl, ap₂, fun-ext, subst}
 use native.Mathlib.Omega.{arith}
 use lib.Dec.{eqb}
 use lib.ListN.{getD}
 use Rattle.model.specs.Case.{Case, base}
-use Rattle.model.specs.Count.{any}
-use Rattle.model.specs.Figures.{isOn, asked}
+use Rattle.basics.specs.Count.{any}
+use Rattle.basics.specs.Lists.{listed}
+use Rattle.model.specs.Figures.{asked}
 use Rattle.model.specs.Plan.{Optimal}
-use Rattle.engine.specs.Planned.{listed, Planned}
+use Rattle.engine.specs.Planned.{Planned}
+use Rattle.engine.specs.Planned.{listed as listedFirst}
 use Rattle.engine.specs.Spelled.{spelled}
-use Rattle.vectors.proofs.Figures.{join, same-copies, swap, copies-p5, P5}
+use Rattle.vectors.proofs.Figures.{join, same-copies, copies-p5, P5}
 
 -- ---- the figure P5, spelled with masks and starts
 
@@ -49,9 +51,9 @@ same-case =
     ap₂ (λ (s : ℕ → ℕ) (h : ℕ → ℕ → Bool). record { disks = 3; blocks = 3; start = s; cost = λ d. getD costs d 0; copy = h })
     (fun-ext same-starts) (fun-ext (λ b. fun-ext (same-copies copies-p5 b)))
 
-same-set : (b : ℕ) → isOn (0 ∷ []) b ≡ listed short 1 b
-unfolding isOn listed any
-same-set b = or-false (eqb b 0) ∙ swap 0 b
+same-set : (b : ℕ) → listed (0 ∷ []) b ≡ listedFirst short 1 b
+unfolding listed listedFirst any
+same-set b = or-false (eqb 0 b)
 
 -- ---- plan
 
@@ -60,7 +62,7 @@ plan-p5 : Planned copies costs starts blank blank (2 ∷ 0 ∷ 0 ∷ []) (0 ∷ 
 plan-p5 =
     record {
       plan =
-          subst (λ (m : Case). Optimal m 10 (λ b. getD disks b 0) (listed short 1)) same-case
+          subst (λ (m : Case). Optimal m 10 (λ b. getD disks b 0) (listedFirst short 1)) same-case
           (subst (λ (S : ℕ → Bool). Optimal (asked copies-p5) 10 (λ b. getD disks b 0) S) (fun-ext same-set) P5);
       set = record { few = omega arith; below = below; rising = λ i j h l. absurd (omega arith); short-rest = rest; short-long = refl };
       disks-rest = none;

@@ -9,21 +9,20 @@ use Rattle.model.specs.Case.{Case, base}
 use Rattle.model.specs.Figures.{asked}
 use Rattle.model.specs.Plan.{Optimal}
 use Rattle.field.specs.declared.Written.the-variants.{Length}
-use Rattle.field.specs.Lists.{All, Rises}
+use Rattle.basics.specs.Lists.{All, Rises, listed}
 use Rattle.settings.specs.Table.{table, disksOf, costs, loads, delays}
-use Rattle.unit.specs.Request.{caseOf, listed, PlanFor, Sheeted, Answered}
+use Rattle.unit.specs.Request.{caseOf, PlanFor, Sheeted, Answered}
 use Rattle.console.specs.Bench.{benchInput, Line}
 use Rattle.stream.specs.Call.{asked as askedCall}
 use Rattle.service.specs.Shelf.{Serves}
 use Rattle.vectors.specs.Text.{bytes, ascii}
 use Rattle.vectors.proofs.Opened.{plan-opened, unit-opened, program-opened}
 use Rattle.vectors.proofs.Settings.{three}
-use Rattle.vectors.proofs.Request.{copies}
-use Rattle.vectors.proofs.Request.{example as request}
+use Rattle.vectors.proofs.Request.{copies, example as request}
 use Rattle.vectors.proofs.Plan.{plan}
 use Rattle.vectors.proofs.Unit.{ready}
 use Rattle.vectors.proofs.Program.{example as input}
-use Rattle.vectors.proofs.Figures.{join, same-copies, same-set, copies-p6, P6}
+use Rattle.vectors.proofs.Figures.{join, same-copies, copies-p6, P6}
 
 -- the settings and the request are the case of P6
 same-case : asked copies-p6 ≡ caseOf (table 3 three) copies
@@ -50,8 +49,7 @@ plan-example =
       };
       blocks = refl;
       optimal =
-          subst (λ (m : Case). Optimal m 9 (λ b. getD (0 ∷ 0 ∷ 1 ∷ 1 ∷ []) b 0) (listed (0 ∷ 1 ∷ 2 ∷ 3 ∷ []))) same-case
-          (subst (λ (S : ℕ → Bool). Optimal (asked copies-p6) 9 (λ b. getD (0 ∷ 0 ∷ 1 ∷ 1 ∷ []) b 0) S) (fun-ext (same-set (0 ∷ 1 ∷ 2 ∷ 3 ∷ []))) P6);
+          subst (λ (m : Case). Optimal m 9 (λ b. getD (0 ∷ 0 ∷ 1 ∷ 1 ∷ []) b 0) (listed (0 ∷ 1 ∷ 2 ∷ 3 ∷ []))) same-case P6;
     }
 
 -- the unit answers document 01's request with document 01's plan sheet

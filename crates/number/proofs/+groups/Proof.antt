@@ -2,7 +2,7 @@
 use borrow.Author.Needs.{needs}
 use native.Mathlib.Omega.{arith}
 use Prim.Native.Nat.{ℕ, _<_}
-use mathlib.Core.Path.{_≡_, sym, ap, _∙_}
+use mathlib.Core.Path.{sym, ap, _∙_}
 use Rattle.number.specs.Told.{told}
 use Rattle.number.specs.Decode.{under}
 use Rattle.number.proofs.Decode.{more-none, more-zero, more-fifth, more-large, more-one, more-under, more-small}

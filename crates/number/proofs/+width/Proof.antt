@@ -21,22 +21,6 @@ width-at t = and 0 width-kinds.ps (is 0 width-kinds.ps μ-width t) width.Pre
 abbrev width-below : ℕ → In 0 width-kinds.ps
 width-below t = and 0 width-kinds.ps (falls 0 width-kinds.ps _<_ μ-width t) width.Pre
 
-width-width-requires :
-    (t : ℕ) → width-lts.Need-width-requires (width-below t, width.Post) (width-at t) width.Post
-width-width-requires t c κs = search needs
-
-width-add-result :
-    (t : ℕ) → width-lts.Need-add-result (width-below t, width.Post) (width-at t) width.Post
-width-add-result t c = omega (arith, c .width .ensures, width-bounds (c .before .before .args .v / 128))
-
-width-returns :
-    (t : ℕ) → width-lts.Need-returns (width-below t, width.Post) (width-at t) width.Post
-width-returns t c = sym (width-one _ (c .if1 .taken))
-
-width-returns-2 :
-    (t : ℕ) → width-lts.Need-returns-2 (width-below t, width.Post) (width-at t) width.Post
-width-returns-2 t c = omega (arith, c .width .ensures, width-more _ (c .before .if1 .left) (c .before .before .fits .v .fits))
-
 pub +width-spec : {M : Type 1} → statement M
 +width-spec =
     close
@@ -45,7 +29,7 @@ pub +width-spec : {M : Type 1} → statement M
     (width-below t, width.Post)
     (width-at t)
     width.Post
-    (width-width-requires t)
-    (width-add-result t)
-    (width-returns t)
-    (width-returns-2 t)
+    (λ c κs. search needs)
+    (λ c. omega (arith, c .width .ensures, width-bounds (c .before .before .args .v / 128)))
+    (λ c. sym (width-one _ (c .if1 .taken)))
+    (λ c. omega (arith, c .width .ensures, width-more _ (c .before .if1 .left) (c .before .before .fits .v .fits)))

@@ -1,7 +1,7 @@
 -- Each return is one law of `decode`, after what `groups` promises.
 use borrow.Author.Needs.{needs}
 use native.Mathlib.Omega.{arith}
-use mathlib.Core.Path.{_≡_, sym, ap, _∙_}
+use mathlib.Core.Path.{sym, ap, _∙_}
 use Rattle.number.specs.Told.{told}
 use Rattle.number.specs.Decode.{under}
 use Rattle.number.proofs.Decode.{decode-none, decode-one, decode-under, more-small}
