@@ -24,11 +24,11 @@ use Rattle.request.specs.Draft.{checked, requestDraft}
 use Rattle.plan.specs.Plan.{Plan}
 use Rattle.plan.specs.Receive.{heads, over}
 use Rattle.plan.proofs.Over.{over-front}
-use Rattle.desk.specs.Numbers.{bytesOf, numbers, broken}
-use Rattle.desk.specs.Packed.{writerAnswer, readerAnswer, refusalIn, lengthIn}
-use Rattle.desk.specs.Desk.{settingsDraftOfBytes, requestDraftOfBytes, Wrote, planOf, setLeft, PlanRead}
-use Rattle.desk.proofs.Numbers.{spell-length, numbers-spell}
-use Rattle.desk.proofs.Packed.{Unpacked, written-unpacks, plan-unpacks, refusal-unpacks}
+use Rattle.lent.specs.Numbers.{bytesOf, numbers, broken}
+use Rattle.lent.specs.Packed.{writerAnswer, readerAnswer, refusalIn, lengthIn}
+use Rattle.desk.specs.Desk.{settingsDraftOfBytes, requestDraftOfBytes, Exported, planOf, setLeft, PlanRead}
+use Rattle.lent.proofs.Numbers.{spell-length, numbers-spell}
+use Rattle.lent.proofs.Packed.{Unpacked, written-unpacks, plan-unpacks, refusal-unpacks}
 use Rattle.desk.proofs.Reading.{Packable, plan-of-packable}
 use Rattle.desk.proofs.Writing.{settings-short, request-short}
 
@@ -52,7 +52,7 @@ taken-of (sheet bs) out h =
     (λ _. let u : _ = written-unpacks (length bs) h in (u .1, u .2))
     (λ _. let u : _ = refusal-unpacks 11 (lit< tt) in (u .0, u .1))
 
-pub written-taken : (d : Draft) (out : List ℕ) (r : ℕ) (after : List ℕ) → Answerable d → Wrote d out r after → Taken (answerTo d out) r
+pub written-taken : (d : Draft) (out : List ℕ) (r : ℕ) (after : List ℕ) → Answerable d → Exported d out r after → Taken (answerTo d out) r
 written-taken d out r after h w = subst (Taken (answerTo d out)) (sym (w .answer)) (taken-of d out h)
 
 -- every draft of the two writers is answerable

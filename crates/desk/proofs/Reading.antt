@@ -28,10 +28,10 @@ use Rattle.plan.specs.Told.{toldPlan}
 use Rattle.plan.proofs.Bounds.{any-most}
 use Rattle.plan.proofs.Over.{over-front}
 use Rattle.plan.proofs.RoundTrip.{sheet-exact}
-use Rattle.desk.specs.Numbers.{bytesOf, numbers, Room}
-use Rattle.desk.specs.Packed.{readerAnswer, Small}
+use Rattle.lent.specs.Numbers.{bytesOf, numbers, Room}
+use Rattle.lent.specs.Packed.{readerAnswer, FitsBits}
 use Rattle.desk.specs.Desk.{planOf, setLeft, PlanRead}
-use Rattle.desk.proofs.Numbers.{numbers-length}
+use Rattle.lent.proofs.Numbers.{numbers-length}
 
 -- ---- how large the values of an accepted sheet are
 
@@ -129,8 +129,8 @@ settled unit t s disks short h n (got p e) b q w =
     absurd (let o : _≡_ {A = ℕ} 0 1 = cc in omega arith))
 
 -- what is packed has room in its bits
-pub plans-small : {unit t : ℕ} {s disks short : List ℕ} {h : Head} → Plans unit t s disks short h → Small (Accepted h)
-unfolding Small
+pub plans-small : {unit t : ℕ} {s disks short : List ℕ} {h : Head} → Plans unit t s disks short h → FitsBits (Accepted h)
+unfolding FitsBits
 plans-small p = (omega (arith, p .blocks, p .range .blocks), omega (arith, p .time, p .range .time), omega (arith, p .size, p .range .size))
 
 -- a part of so many numbers

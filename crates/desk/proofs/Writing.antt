@@ -1,5 +1,5 @@
 -- Laws of the two writers.
---     wrote-refused, wrote-sent     a refusal before the sheet's writer, and what that writer did
+--     exported-refused, exported-sent     a refusal before the sheet's writer, and what that writer did
 --     settings-unusable, ..         lists that are broken or too long are 6
 --     settings-short, ..            the length of a sheet has room in its bits
 use mathlib.Core.Path.{_≡_, refl, sym, ap, _∙_}
@@ -21,19 +21,19 @@ use Rattle.settings.proofs.Longest.{longest-written as longest-settings}
 use Rattle.settings.proofs.Writing.{Sheeted, draft-either}
 use Rattle.request.specs.Draft.{requestDraft}
 use Rattle.request.proofs.RoundTrip.{longest-written as longest-request}
-use Rattle.desk.specs.Numbers.{numbers, broken, usable}
-use Rattle.desk.specs.Packed.{writerAnswer, Short}
-use Rattle.desk.specs.Desk.{settingsDraftOfBytes, requestDraftOfBytes, Wrote}
-use Rattle.desk.proofs.Tests.{is-usable, not-usable}
+use Rattle.lent.specs.Numbers.{numbers, broken, usable}
+use Rattle.lent.specs.Packed.{writerAnswer, Fits32}
+use Rattle.desk.specs.Desk.{settingsDraftOfBytes, requestDraftOfBytes, Exported}
+use Rattle.lent.proofs.Tests.{is-usable, not-usable}
 
 -- ---- the ways in which a writer ends
 
-pub wrote-refused : {d : Draft} (out : List ℕ) → d ≡ none 6 → Wrote d out 6 out
+pub exported-refused : {d : Draft} (out : List ℕ) → d ≡ none 6 → Exported d out 6 out
 unfolding writerAnswer answerTo leftBy
-wrote-refused out e = rw e (record { answer = refl; held = refl })
+exported-refused out e = rw e (record { answer = refl; held = refl })
 
-pub wrote-sent : {d e : Draft} {out : List ℕ} {w : Written} {r : ℕ} {after : List ℕ} → d ≡ e → Sent e out w after → r ≡ writerAnswer (toldWritten w) → Wrote d out r after
-wrote-sent {d} {e} {out} {w} {r} {after} q s a = record {
+pub exported-sent : {d e : Draft} {out : List ℕ} {w : Written} {r : ℕ} {after : List ℕ} → d ≡ e → Sent e out w after → r ≡ writerAnswer (toldWritten w) → Exported d out r after
+exported-sent {d} {e} {out} {w} {r} {after} q s a = record {
   answer = a ∙ ap writerAnswer (s .answer) ∙ ap (λ (x : Draft). writerAnswer (answerTo x out)) (sym q);
   held = s .held ∙ ap (λ (x : Draft). leftBy x out) (sym q);
 }
@@ -43,8 +43,8 @@ pub settings-sent : (unit t : ℕ) {cs ls ds cs′ ls′ ds′ out : List ℕ} {
 settings-sent unit t p q r s = rw (sym p, sym q, sym r) s
 
 -- a sheet of fewer bytes than 32 bits count
-pub short-sent : (d : Draft) (out : List ℕ) (w : Written) (after : List ℕ) → Sent d out w after → ((bs : List ℕ) → d ≡ sheet bs → length bs < 2 ^ 32) → Short w
-unfolding Short toldWritten answerTo
+pub short-sent : (d : Draft) (out : List ℕ) (w : Written) (after : List ℕ) → Sent d out w after → ((bs : List ℕ) → d ≡ sheet bs → length bs < 2 ^ 32) → Fits32 w
+unfolding Fits32 toldWritten answerTo
 short-sent d out (Refused e) after s few = tt
 short-sent (none k) out (Length n) after s few =
     let q : got tt n ≡ refused k = s .answer in absurd (let z : _≡_ {A = ℕ} 0 1 = cc in omega arith)

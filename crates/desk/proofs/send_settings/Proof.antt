@@ -1,7 +1,7 @@
 -- `send_settings`: the parts that are lent hold the numbers of the bytes, and the sheet's writer does the rest.
 use borrow.Author.Needs.{needs}
 use Rattle.desk.proofs.Writing.{settings-sent}
-use Rattle.desk.proofs.Over.{part-numbers, part-count}
+use Rattle.lent.proofs.Over.{part-numbers, part-count}
 use Rattle.desk.proofs.send_settings.Statement.{statement}
 use Rattle.desk.proofs.send_settings.Tie as tie
 

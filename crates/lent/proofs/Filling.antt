@@ -11,8 +11,8 @@ use Rattle.field.specs.Put.{spellAll}
 use Rattle.field.proofs.Spell.{spell-more}
 use Rattle.plan.specs.Receive.{over}
 use Rattle.plan.proofs.Over.{over-none, over-length, over-more}
-use Rattle.desk.specs.Numbers.{bytesOf, numberAt, firstNumbers, numbers}
-use Rattle.desk.proofs.Numbers.{first-length, first-more, spell-length}
+use Rattle.lent.specs.Numbers.{bytesOf, numberAt, firstNumbers, numbers}
+use Rattle.lent.proofs.Numbers.{first-length, first-more, spell-length}
 
 -- ---- numbers of w bytes, for any w
 

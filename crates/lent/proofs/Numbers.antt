@@ -16,7 +16,7 @@ use Rattle.number.specs.Bytes.{Bytes}
 use Rattle.number.proofs.Part.{drop-bytes}
 use Rattle.field.specs.Put.{spellAll}
 use Rattle.field.specs.Lists.{All}
-use Rattle.desk.specs.Numbers.{valueOf, bytesOf, numberAt, firstNumbers, numbers, broken}
+use Rattle.lent.specs.Numbers.{valueOf, bytesOf, numberAt, firstNumbers, numbers, broken}
 
 -- ---- one number
 

@@ -3,10 +3,10 @@ use borrow.Author.Needs.{needs}
 use native.Mathlib.Omega.{arith}
 use Prim.Native.Nat.{ℕ, _-_}
 use lib.ListN.{replicate, length-replicate}
-use Rattle.desk.proofs.Filling.{Gathered, gathered-start, gathered-step, gathered-done}
+use Rattle.lent.proofs.Filling.{Gathered, gathered-start, gathered-step, gathered-done}
 use mathlib.Core.Path.{refl}
-use Rattle.desk.proofs.eights.Statement.{statement}
-use Rattle.desk.proofs.eights.Tie as tie
+use Rattle.lent.proofs.eights.Statement.{statement}
+use Rattle.lent.proofs.eights.Tie as tie
 
 abbrev Inv-loop : tie.InvT-loop
 Inv-loop bytes n out₀ i₀ out i = Gathered 8 n bytes (replicate 1024 0) out i
@@ -16,24 +16,6 @@ abbrev μ-loop : tie.MeasureT-loop
 
 loop-holds : tie.Need-loop-holds Inv-loop μ-loop
 loop-holds c = gathered-start refl
-
-mul-eight-at : tie.Need-mul-eight-at Inv-loop μ-loop
-mul-eight-at c = search needs
-
-eight-at-requires : tie.Need-eight-at-requires Inv-loop μ-loop
-eight-at-requires c κs = search needs
-
-mul-out : tie.Need-mul-out Inv-loop μ-loop
-mul-out c = search needs
-
-array-write-out : tie.Need-array-write-out Inv-loop μ-loop
-array-write-out c = search needs
-
-add-i : tie.Need-add-i Inv-loop μ-loop
-add-i c = search needs
-
-loop-less : tie.Need-loop-less Inv-loop μ-loop
-loop-less c = search needs
 
 loop-again : tie.Need-loop-again Inv-loop μ-loop
 loop-again c = gathered-step (c .before .before .loop .inv) (c .before .loop-test .taken) (omega (arith, c .before .before .before .before .pre, length-replicate {A = ℕ} 1024 0)) (c .eight-at .ensures)
@@ -48,11 +30,11 @@ eights-spec =
     Inv-loop
     μ-loop
     loop-holds
-    mul-eight-at
-    eight-at-requires
-    mul-out
-    array-write-out
-    add-i
-    loop-less
+    (λ c. search needs)
+    (λ c κs. search needs)
+    (λ c. search needs)
+    (λ c. search needs)
+    (λ c. search needs)
+    (λ c. search needs)
     loop-again
     returns)

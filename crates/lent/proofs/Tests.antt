@@ -9,8 +9,8 @@ use borrow.Author.Tests.{leb-true, leb-false, lt-ltb, le-ltb}
 use lib.ListN.{length}
 use lib.Dec.{leb}
 use Rattle.number.proofs.Choice.{either}
-use Rattle.desk.specs.Numbers.{numbers, broken, usable}
-use Rattle.desk.proofs.Numbers.{numbers-length}
+use Rattle.lent.specs.Numbers.{numbers, broken, usable}
+use Rattle.lent.proofs.Numbers.{numbers-length}
 
 module _ (w most : ℕ) (s : List ℕ) where
   pub is-usable : usable w most s ≡ true → (broken w s ≡ false) × (length s / w ≤ most)

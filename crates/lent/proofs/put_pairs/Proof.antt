@@ -2,11 +2,11 @@
 use borrow.Author.Needs.{needs}
 use native.Mathlib.Omega.{arith}
 use Prim.Native.Nat.{_-_}
-use Rattle.desk.proofs.Filling.{Spread, spread-start, spread-length, spread-step, spread-done}
+use Rattle.lent.proofs.Filling.{Spread, spread-start, spread-length, spread-step, spread-done}
 use mathlib.Core.Path.{refl}
 use lib.ListN.{length-set}
-use Rattle.desk.proofs.put_pairs.Statement.{statement}
-use Rattle.desk.proofs.put_pairs.Tie as tie
+use Rattle.lent.proofs.put_pairs.Statement.{statement}
+use Rattle.lent.proofs.put_pairs.Tie as tie
 
 abbrev Inv-loop : tie.InvT-loop
 Inv-loop xs m out₀ i₀ out i = Spread xs out₀ out m i
@@ -17,38 +17,14 @@ abbrev μ-loop : tie.MeasureT-loop
 loop-holds : tie.Need-loop-holds Inv-loop μ-loop
 loop-holds c = spread-start
 
-mul-x : tie.Need-mul-x Inv-loop μ-loop
-mul-x c = search needs
-
-shared-slice-read-x : tie.Need-shared-slice-read-x Inv-loop μ-loop
-shared-slice-read-x c = search needs
-
-cast-out : tie.Need-cast-out Inv-loop μ-loop
-cast-out c = search needs
-
-mul-out : tie.Need-mul-out Inv-loop μ-loop
-mul-out c = search needs
-
 slice-write-out : tie.Need-slice-write-out Inv-loop μ-loop
 slice-write-out c = omega (arith, spread-length (c .before .before .loop .inv) (c .before .before .before .pre .0) (c .before .before .before .pre .1))
 
 cast-out-2 : tie.Need-cast-out-2 Inv-loop μ-loop
 cast-out-2 c = omega (arith, c .shared-slice-known .given (c .before .before .loop .i))
 
-mul-out-2 : tie.Need-mul-out-2 Inv-loop μ-loop
-mul-out-2 c = search needs
-
-add-out : tie.Need-add-out Inv-loop μ-loop
-add-out c = search needs
-
 slice-write-out-2 : tie.Need-slice-write-out-2 Inv-loop μ-loop
 slice-write-out-2 c = simp length-set (omega (arith, spread-length (c .before .before .loop .inv) (c .before .before .before .pre .0) (c .before .before .before .pre .1)))
-
-add-i : tie.Need-add-i Inv-loop μ-loop
-add-i c = search needs
-
-loop-less : tie.Need-loop-less Inv-loop μ-loop
-loop-less c = search needs
 
 loop-again : tie.Need-loop-again Inv-loop μ-loop
 loop-again c = spread-step (c .before .before .loop .inv) (c .before .before .before .pre .0) (c .before .before .before .pre .1) (c .before .loop-test .taken) refl (c .shared-slice-known .given (c .before .before .loop .i) .fits) refl refl
@@ -66,17 +42,17 @@ put-pairs-spec =
     Inv-loop
     μ-loop
     loop-holds
-    mul-x
-    shared-slice-read-x
-    cast-out
-    mul-out
+    (λ c. search needs)
+    (λ c. search needs)
+    (λ c. search needs)
+    (λ c. search needs)
     slice-write-out
     cast-out-2
-    mul-out-2
-    add-out
+    (λ c. search needs)
+    (λ c. search needs)
     slice-write-out-2
-    add-i
-    loop-less
+    (λ c. search needs)
+    (λ c. search needs)
     loop-again
     same-length
     returns)

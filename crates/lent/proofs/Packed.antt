@@ -12,7 +12,7 @@ use Rattle.plan.specs.declared.Answer.{Answer}
 use Rattle.plan.specs.declared.Answer.the-variants.{Accepted}
 use Rattle.plan.specs.declared.Answer.the-variants.{Refused as Not}
 use Rattle.plan.specs.Told.{toldPlan}
-use Rattle.desk.specs.Packed.{packWritten, packPlan, writerAnswer, readerAnswer, refusalIn, lengthIn, blocksIn, timeIn, sizeIn, Short, Small}
+use Rattle.lent.specs.Packed.{packWritten, packPlan, writerAnswer, readerAnswer, refusalIn, lengthIn, blocksIn, timeIn, sizeIn, Fits32, FitsBits}
 
 -- a writer's acceptance: no refusal, and the length
 pub written-unpacks : (n : ℕ) → n < 2 ^ 32 → (packWritten n < 2 ^ 64) × (refusalIn (packWritten n) ≡ 0) × (lengthIn (packWritten n) ≡ n)
@@ -39,9 +39,9 @@ refusal-unpacks e h = (omega arith, omega arith, omega arith, omega arith, omega
 -- ---- what the code packs
 
 module _ {w : Written} where
-  pub short-length : {n : ℕ} → Short w → w ≡ Length n → n < 2 ^ 32
-  unfolding Short
-  short-length {n} h e = subst Short e h
+  pub short-length : {n : ℕ} → Fits32 w → w ≡ Length n → n < 2 ^ 32
+  unfolding Fits32
+  short-length {n} h e = subst Fits32 e h
 
   pub packed-length : {n : ℕ} → w ≡ Length n → n * 4294967296 ≡ writerAnswer (toldWritten w)
   unfolding writerAnswer toldWritten packWritten
@@ -52,9 +52,9 @@ module _ {w : Written} where
   packed-refusal {e} {r} q a = a ∙ ap (λ x. writerAnswer (toldWritten x)) (sym q)
 
 module _ {a : Answer} where
-  pub small-head : {h : Head} → Small a → a ≡ Accepted h → (h .blocks < 2 ^ 11) × (h .time < 2 ^ 31) × (h .size < 2 ^ 11)
-  unfolding Small
-  small-head {h} s e = subst Small e s
+  pub small-head : {h : Head} → FitsBits a → a ≡ Accepted h → (h .blocks < 2 ^ 11) × (h .time < 2 ^ 31) × (h .size < 2 ^ 11)
+  unfolding FitsBits
+  small-head {h} s e = subst FitsBits e s
 
   pub packed-head : {h : Head} → a ≡ Accepted h → (n : ℕ) → h .blocks * 256 + h .time * 524288 + h .size * 1125899906842624 ≡ readerAnswer (toldPlan n a)
   unfolding readerAnswer toldPlan packPlan
