@@ -10,3 +10,4 @@ pub mod Opened
 pub mod Unique
 pub mod Lists
 pub mod Sends
+pub mod Known

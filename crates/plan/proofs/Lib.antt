@@ -10,3 +10,4 @@ pub mod Sending
 pub mod Longest
 pub mod RoundTrip
 pub mod Unique
+pub mod Known
