@@ -140,17 +140,21 @@ got-unless (got p e) f = (p, e, refl)
 got-unless (refused n) f = absurd (f n refl)
 
 -- Q, R and m of what the sheet says, and no refusal
-pub plan-taken : (unit t : ℕ) (s disks set : List ℕ) (r : ℕ) (disks′ set′ : List ℕ) (p : Plan) (e : ℕ) → Bytes s → PlanRead unit t s disks set r disks′ set′ → planOf unit t s disks set ≡ got p e → Unpacked (length (p .disks)) (p .time) (length (p .short)) r
+pub plan-taken : (unit t : ℕ) (s disks set : List ℕ) (r : ℕ) (disks′ set′ : List ℕ) (p : Plan) (e : ℕ) → Bytes s
+    → PlanRead unit t s disks set r disks′ set′ → planOf unit t s disks set ≡ got p e
+    → Unpacked (length (p .disks)) (p .time) (length (p .short)) r
 unfolding heads readerAnswer
 plan-taken unit t s disks set r disks′ set′ p e b w h =
     let g : Packable p = plan-of-packable unit t s disks set p e b h in
     subst (Unpacked (length (p .disks)) (p .time) (length (p .short))) (sym (w .answer ∙ ap (λ (o : Out Plan). readerAnswer (heads o)) h))
-    (plan-unpacks (length (p .disks)) (p .time) (length (p .short)) (omega (arith, g .blocks)) (omega (arith, g .time)) (omega (arith, g .size)))
+    (plan-unpacks (length (p .disks)) (p .time) (length (p .short)) (omega (arith, g .blocks)) (omega (arith, g .time))
+    (omega (arith, g .size)))
 
 -- a refusal of the plan sheet is one of the table's, and its number is all that is answered
 pub plan-known : (unit t : ℕ) (s disks set : List ℕ) (n : ℕ) → planOf unit t s disks set ≡ refused n → Known n
 unfolding planOf
-plan-known unit t s disks set n h = refused-known _ n h (settle-answers (planSheet unit t s 0) disks (numbers 2 set) (numbered-plan unit t .answers s 0))
+plan-known unit t s disks set n h =
+    refused-known _ n h (settle-answers (planSheet unit t s 0) disks (numbers 2 set) (numbered-plan unit t .answers s 0))
 
 pub plan-refused : (unit t : ℕ) (s disks set : List ℕ) (r : ℕ) (disks′ set′ : List ℕ) (n : ℕ)
     → PlanRead unit t s disks set r disks′ set′ → planOf unit t s disks set ≡ refused n → Known n × (r ≡ n) × (refusalIn r ≡ n)
@@ -168,7 +172,9 @@ plan-accepted unit t s disks set r disks′ set′ w z =
     (λ n h. let u : _ = plan-refused unit t s disks set r disks′ set′ n w h in omega (arith, u .0 .0, u .2, z))
 
 -- the short set is what the first bytes of the lent list say
-pub set-taken : (unit t : ℕ) (s disks set : List ℕ) (r : ℕ) (disks′ set′ : List ℕ) (p : Plan) (e : ℕ) → Bytes s → PlanRead unit t s disks set r disks′ set′ → planOf unit t s disks set ≡ got p e → numbers 2 (take (2 * length (p .short)) set′) ≡ p .short
+pub set-taken : (unit t : ℕ) (s disks set : List ℕ) (r : ℕ) (disks′ set′ : List ℕ) (p : Plan) (e : ℕ) → Bytes s
+    → PlanRead unit t s disks set r disks′ set′ → planOf unit t s disks set ≡ got p e
+    → numbers 2 (take (2 * length (p .short)) set′) ≡ p .short
 unfolding setLeft
 set-taken unit t s disks set r disks′ set′ p e b w h =
     let g : Packable p = plan-of-packable unit t s disks set p e b h in
@@ -181,14 +187,19 @@ set-taken unit t s disks set r disks′ set′ p e b w h =
 
 whole-spell : (w : ℕ) (xs : List ℕ) → broken w (spellAll (bytesOf w) xs) ≡ false
 unfolding broken
-whole-spell w xs = le-ltb 0 (length (spellAll (bytesOf w) xs) % w) (omega (arith, ap (λ (k : ℕ). k % w) (spell-length w xs), mul-mod-right w (length xs)))
+whole-spell w xs = le-ltb 0 (length (spellAll (bytesOf w) xs) % w)
+    (omega (arith, ap (λ (k : ℕ). k % w) (spell-length w xs), mul-mod-right w (length xs)))
 
-pub settings-of-numbers : (unit t : ℕ) (cs ls ds : List ℕ) → All (λ (x : ℕ). x < 256 ^ 4) cs → All (λ (x : ℕ). x < 256 ^ 4) ls → All (λ (x : ℕ). x < 256 ^ 4) ds → settingsDraftOfBytes unit t (spellAll (bytesOf 4) cs) (spellAll (bytesOf 4) ls) (spellAll (bytesOf 4) ds) ≡ settingsDraft unit t cs ls ds
+pub settings-of-numbers : (unit t : ℕ) (cs ls ds : List ℕ) → All (λ (x : ℕ). x < 256 ^ 4) cs → All (λ (x : ℕ). x < 256 ^ 4) ls
+    → All (λ (x : ℕ). x < 256 ^ 4) ds
+    → settingsDraftOfBytes unit t (spellAll (bytesOf 4) cs) (spellAll (bytesOf 4) ls) (spellAll (bytesOf 4) ds)
+    ≡ settingsDraft unit t cs ls ds
 unfolding settingsDraftOfBytes
 settings-of-numbers unit t cs ls ds p q r =
     pick-false _ _ (rw (whole-spell 4 cs, whole-spell 4 ls, whole-spell 4 ds))
     ∙ rw (numbers-spell 4 cs (lit< tt) p, numbers-spell 4 ls (lit< tt) q, numbers-spell 4 ds (lit< tt) r)
 
-pub request-of-numbers : (unit t n : ℕ) (ms : List ℕ) → All (λ (x : ℕ). x < 256 ^ 8) ms → requestDraftOfBytes unit t n (spellAll (bytesOf 8) ms) ≡ requestDraft unit t n ms
+pub request-of-numbers : (unit t n : ℕ) (ms : List ℕ) → All (λ (x : ℕ). x < 256 ^ 8) ms
+    → requestDraftOfBytes unit t n (spellAll (bytesOf 8) ms) ≡ requestDraft unit t n ms
 unfolding requestDraftOfBytes
 request-of-numbers unit t n ms p = pick-false _ _ (whole-spell 8 ms) ∙ ap (requestDraft unit t n) (numbers-spell 8 ms (lit< tt) p)

@@ -22,7 +22,9 @@ fn send_settings(
     out: &mut [u8],
 ) -> Written
     requires { ⌜ (length (now costs) / 4 ≤ disksMost) × (length (now loads) / 4 ≤ disksMost) × (length (now delays) / 4 ≤ disksMost) ⌝ }
-    ensures { λ r. ⌜ Sent (settingsDraft unit tenancy (numbers 4 (now (costs .entry))) (numbers 4 (now (loads .entry))) (numbers 4 (now (delays .entry)))) (now (out .entry)) r (now (out .exit)) ⌝ }
+    ensures { λ r. ⌜ Sent
+        (settingsDraft unit tenancy (numbers 4 (now (costs .entry))) (numbers 4 (now (loads .entry))) (numbers 4 (now (delays .entry))))
+        (now (out .entry)) r (now (out .exit)) ⌝ }
 {
     let c = lent::fours(costs);
     let l = lent::fours(loads);
@@ -43,7 +45,8 @@ pub extern "C" fn rp_write_settings(
     delays: &[u8],
     out: &mut [u8],
 ) -> u64
-    ensures { λ r. ⌜ Exported (settingsDraftOfBytes unit tenancy (now (costs .entry)) (now (loads .entry)) (now (delays .entry))) (now (out .entry)) r (now (out .exit)) ⌝ }
+    ensures { λ r. ⌜ Exported (settingsDraftOfBytes unit tenancy (now (costs .entry)) (now (loads .entry)) (now (delays .entry)))
+        (now (out .entry)) r (now (out .exit)) ⌝ }
 {
     if !lent::usable(costs, 4, DISKS) {
         return 6;
@@ -85,7 +88,8 @@ pub extern "C" fn rp_read_plan(
     disks: &mut [u8],
     short: &mut [u8],
 ) -> u64
-    ensures { λ r. ⌜ PlanRead unit tenancy (now (sheet .entry)) (now (disks .entry)) (now (short .entry)) r (now (disks .exit)) (now (short .exit)) ⌝ }
+    ensures { λ r. ⌜ PlanRead unit tenancy (now (sheet .entry)) (now (disks .entry)) (now (short .entry)) r
+        (now (disks .exit)) (now (short .exit)) ⌝ }
 {
     let mut blocks = [0u16; BLOCKS];
     let k = lent::room(short);

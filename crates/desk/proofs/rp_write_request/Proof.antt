@@ -25,7 +25,11 @@ pack-written-requires : tie.Need-pack-written-requires
 pack-written-requires c κs = short-sent _ _ _ _ (c .before .before .write .ensures) (request-short _ _ _ _)
 
 returns-2 : tie.Need-returns-2
-returns-2 c = exported-sent (request-usable _ _ _ _ (sym (c .before .before .before .before .before .before .before .before .usable .ensures) ∙ not-false _ (c .before .before .before .before .before .before .before .if1 .left)) ∙ ap (requestDraft _ _ _) (sym (part-numbers 8 _ _ _ (c .before .before .before .before .before .before .eights .ensures)))) (c .before .before .before .write .ensures) (c .pack-written .ensures)
+returns-2 c = exported-sent
+    (request-usable _ _ _ _ (sym (c .before .before .before .before .before .before .before .before .usable .ensures)
+    ∙ not-false _ (c .before .before .before .before .before .before .before .if1 .left))
+    ∙ ap (requestDraft _ _ _) (sym (part-numbers 8 _ _ _ (c .before .before .before .before .before .before .eights .ensures))))
+    (c .before .before .before .write .ensures) (c .pack-written .ensures)
 
 pub rp-write-request-spec : {M : Type 1} → statement M
 rp-write-request-spec =

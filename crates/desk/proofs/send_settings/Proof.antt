@@ -15,7 +15,10 @@ slice-aggregate-write-3 : tie.Need-slice-aggregate-write-3
 slice-aggregate-write-3 c = part-count 4 _ _ _ (c .before .before .before .fours3 .ensures)
 
 returns : tie.Need-returns
-returns c = settings-sent _ _ (part-numbers 4 _ _ _ (c .before .before .before .before .before .before .before .before .before .fours .ensures)) (part-numbers 4 _ _ _ (c .before .before .before .before .before .before .before .before .fours2 .ensures)) (part-numbers 4 _ _ _ (c .before .before .before .before .before .before .before .fours3 .ensures)) (c .before .before .write .ensures)
+returns c = settings-sent _ _
+    (part-numbers 4 _ _ _ (c .before .before .before .before .before .before .before .before .before .fours .ensures))
+    (part-numbers 4 _ _ _ (c .before .before .before .before .before .before .before .before .fours2 .ensures))
+    (part-numbers 4 _ _ _ (c .before .before .before .before .before .before .before .fours3 .ensures)) (c .before .before .write .ensures)
 
 pub send-settings-spec : {M : Type 1} → statement M
 send-settings-spec =

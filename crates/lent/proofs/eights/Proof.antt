@@ -18,7 +18,8 @@ loop-holds : tie.Need-loop-holds Inv-loop μ-loop
 loop-holds c = gathered-start refl
 
 loop-again : tie.Need-loop-again Inv-loop μ-loop
-loop-again c = gathered-step (c .before .before .loop .inv) (c .before .loop-test .taken) (omega (arith, c .before .before .before .before .pre, length-replicate {A = ℕ} 1024 0)) (c .eight-at .ensures)
+loop-again c = gathered-step (c .before .before .loop .inv) (c .before .loop-test .taken)
+    (omega (arith, c .before .before .before .before .pre, length-replicate {A = ℕ} 1024 0)) (c .eight-at .ensures)
 
 returns : tie.Need-returns Inv-loop μ-loop
 returns c = gathered-done (c .before .loop .inv) (c .loop-test .left)

@@ -18,16 +18,20 @@ loop-holds : tie.Need-loop-holds Inv-loop μ-loop
 loop-holds c = spread-start
 
 slice-write-out : tie.Need-slice-write-out Inv-loop μ-loop
-slice-write-out c = omega (arith, spread-length (c .before .before .loop .inv) (c .before .before .before .pre .0) (c .before .before .before .pre .1))
+slice-write-out c = omega
+    (arith, spread-length (c .before .before .loop .inv) (c .before .before .before .pre .0) (c .before .before .before .pre .1))
 
 cast-out-2 : tie.Need-cast-out-2 Inv-loop μ-loop
 cast-out-2 c = omega (arith, c .shared-slice-known .given (c .before .before .loop .i))
 
 slice-write-out-2 : tie.Need-slice-write-out-2 Inv-loop μ-loop
-slice-write-out-2 c = simp length-set (omega (arith, spread-length (c .before .before .loop .inv) (c .before .before .before .pre .0) (c .before .before .before .pre .1)))
+slice-write-out-2 c =
+    simp length-set (omega
+    (arith, spread-length (c .before .before .loop .inv) (c .before .before .before .pre .0) (c .before .before .before .pre .1)))
 
 loop-again : tie.Need-loop-again Inv-loop μ-loop
-loop-again c = spread-step (c .before .before .loop .inv) (c .before .before .before .pre .0) (c .before .before .before .pre .1) (c .before .loop-test .taken) refl (c .shared-slice-known .given (c .before .before .loop .i) .fits) refl refl
+loop-again c = spread-step (c .before .before .loop .inv) (c .before .before .before .pre .0) (c .before .before .before .pre .1)
+    (c .before .loop-test .taken) refl (c .shared-slice-known .given (c .before .before .loop .i) .fits) refl refl
 
 same-length : tie.Need-same-length Inv-loop μ-loop
 same-length c = spread-length (c .before .loop .inv) (c .before .before .pre .0) (c .before .before .pre .1)
