@@ -11,3 +11,4 @@ pub mod Unique
 pub mod Lists
 pub mod Sends
 pub mod Known
+pub mod OneByte

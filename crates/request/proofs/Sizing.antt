@@ -23,7 +23,8 @@ use Rattle.request.proofs.Writing.{block-length}
 
 -- ---- disks at N or above
 
-module _ (n m known rest : ℕ) (l : n ≤ 64) (b : Below n known) (h : m < 2 ^ 64) (w : (e : ℕ) → has rest e ≡ (has m e && not (has known e))) where
+module _ (n m known rest : ℕ) (l : n ≤ 64) (b : Below n known) (h : m < 2 ^ 64)
+    (w : (e : ℕ) → has rest e ≡ (has m e && not (has known e))) where
   beyond : (e : ℕ) → n ≤ e → has rest e ≡ has m e
   beyond e g = w e ∙ ap (λ (t : Bool). has m e && not t) (b .holds l e ∙ le-ltb e n g) ∙ and-true (has m e)
 
@@ -37,7 +38,8 @@ module _ (n m known rest : ℕ) (l : n ≤ 64) (b : Below n known) (h : m < 2 ^ 
       let s : (d : ℕ) × (d < 64) × (has rest d ≡ true) = mask-some 64 rest r (omega arith) in
       let under : m < 2 ^ n = ltb-true m (2 ^ n) t in
       either (ltb (s .0) n)
-      (λ g. absurd (true≢false (sym (s .2) ∙ w (s .0) ∙ ap (λ (t : Bool). has m (s .0) && not t) (b .holds l (s .0) ∙ g) ∙ and-false (has m (s .0)))))
+      (λ g. absurd (true≢false (sym (s .2) ∙ w (s .0) ∙ ap (λ (t : Bool). has m (s .0) && not t) (b .holds l (s .0) ∙ g)
+      ∙ and-false (has m (s .0)))))
       (λ g. absurd (true≢false (sym (s .2) ∙ beyond (s .0) (ltb-false (s .0) n g) ∙ has-above n under (ltb-false (s .0) n g)))))
       (λ f. ltb-false m (2 ^ n) f)
 
@@ -58,7 +60,12 @@ module _ (n : ℕ) (ms : List ℕ) (total i : ℕ) (c : Counting n ms total i) w
   counting-done b h =
       let e : i ≡ length ms = omega (arith, c .within) in
       let z : drop i ms ≡ [] = ap (λ (k : ℕ). drop k ms) e ∙ drop-length ms in (
-        record { count = b; bytes = omega (arith, c .sum, ap (λ (x : List ℕ). length (spellAll blockBytes x)) z); small = omega (arith, c .small, e) },
+        record {
+          count = b;
+          bytes = omega (arith, c .sum, ap (λ (x : List ℕ). length (spellAll blockBytes x)) z);
+          small =
+              omega (arith, c .small, e);
+        },
         λ d. c .same d ∙ ap (λ (x : List ℕ). checked n x d) z,
       )
 
@@ -81,7 +88,8 @@ module _ (n : ℕ) (ms : List ℕ) (total i : ℕ) (c : Counting n ms total i) w
       module _ (few : members 64 m ≤ 8) where
         pub counting-high : 2 ^ n ≤ m → (d : Draft) → checked n ms d ≡ none 6
         unfolding checked
-        counting-high g d = at-block d ∙ pick-false _ _ (ne-eqb m 0 some) ∙ pick-false _ _ (le-ltb 8 (members 64 m) few) ∙ pick-true _ _ (le-leb (2 ^ n) m g)
+        counting-high g d = at-block d ∙ pick-false _ _ (ne-eqb m 0 some) ∙ pick-false _ _ (le-ltb 8 (members 64 m) few)
+            ∙ pick-true _ _ (le-leb (2 ^ n) m g)
 
         pub counting-step : (k : ℕ) → k ≡ members 64 m → m < 2 ^ n → Counting n ms (total + (1 + k)) (i + 1)
         unfolding checked spellAll
@@ -99,6 +107,7 @@ module _ (n : ℕ) (ms : List ℕ) (total i : ℕ) (c : Counting n ms total i) w
                 block-length m,
                 ap (λ (x : List ℕ). length (spellAll blockBytes x)) e,
               );
-              same = λ d. at-block d ∙ pick-false _ _ (ne-eqb m 0 some) ∙ pick-false _ _ (le-ltb 8 (members 64 m) few) ∙ pick-false _ _ (lt-leb (2 ^ n) m g)
+              same = λ d. at-block d ∙ pick-false _ _ (ne-eqb m 0 some) ∙ pick-false _ _ (le-ltb 8 (members 64 m) few)
+                  ∙ pick-false _ _ (lt-leb (2 ^ n) m g)
                   ∙ ap (λ (x : List ℕ). checked n x d) e;
             }

@@ -35,7 +35,8 @@ module _ (m : ℕ) where
   pub disks-out : (d : ℕ) → has m d ≡ false → spellAll encode (disksBelow (suc d) m) ≡ spellAll encode (disksBelow d m)
   unfolding disksBelow
   disks-out d h =
-      ap (λ (x : List ℕ). spellAll encode (disksBelow d m ++ x)) (pick-false (d ∷ []) [] h) ∙ ap (spellAll encode) (append-nil (disksBelow d m))
+      ap (λ (x : List ℕ). spellAll encode (disksBelow d m ++ x)) (pick-false (d ∷ []) [] h)
+      ∙ ap (spellAll encode) (append-nil (disksBelow d m))
 
   -- each disk below 128 is one byte
   pub disks-length : (n : ℕ) → n ≤ 128 → length (spellAll encode (disksBelow n m)) ≡ members n m
@@ -43,7 +44,14 @@ module _ (m : ℕ) where
   disks-length zero h = refl
   disks-length (suc d) h =
       either (has m d)
-      (λ t. omega (arith, ap length (disks-in d t), length-append (spellAll encode (disksBelow d m)) (encode d), width-one d (omega arith), disks-length d (omega arith), ap bit t))
+      (λ t. omega (
+        arith,
+        ap length (disks-in d t),
+        length-append (spellAll encode (disksBelow d m)) (encode d),
+        width-one d (omega arith),
+        disks-length d (omega arith),
+        ap bit t,
+      ))
       (λ f. omega (arith, ap length (disks-out d f), disks-length d (omega arith), ap bit f))
 
   pub disks-count : (n : ℕ) → length (disksBelow n m) ≡ members n m
@@ -51,8 +59,21 @@ module _ (m : ℕ) where
   disks-count zero = refl
   disks-count (suc d) =
       either (has m d)
-      (λ t. omega (arith, ap (λ (x : List ℕ). length (disksBelow d m ++ x)) (pick-true (d ∷ []) [] t), length-append (disksBelow d m) (d ∷ []), disks-count d, ap bit t))
-      (λ f. omega (arith, ap (λ (x : List ℕ). length (disksBelow d m ++ x)) (pick-false (d ∷ []) [] f), length-append (disksBelow d m) [], disks-count d, ap bit f))
+      (λ t. omega (
+        arith,
+        ap (λ (x : List ℕ). length (disksBelow d m ++ x)) (pick-true (d ∷ []) [] t),
+        length-append (disksBelow d m)
+            (d ∷ []),
+        disks-count d,
+        ap bit t,
+      ))
+      (λ f. omega (
+        arith,
+        ap (λ (x : List ℕ). length (disksBelow d m ++ x)) (pick-false (d ∷ []) [] f),
+        length-append (disksBelow d m) [],
+        disks-count d,
+        ap bit f,
+      ))
 
   members-in : (d : ℕ) → has m d ≡ true → members (suc d) m ≡ members d m + 1
   unfolding members bit
@@ -61,18 +82,22 @@ module _ (m : ℕ) where
   -- fewer places hold no more disks
   members-mono : (d k : ℕ) → members d m ≤ members (d + k) m
   unfolding members
-  members-mono d zero = let e : members (d + 0) m ≡ members d m = ap (λ (k : ℕ). members k m) {x = d + 0} {y = d} (omega arith) in omega arith
+  members-mono d zero = let e : members (d + 0) m ≡ members d m = ap (λ (k : ℕ). members k m) {x = d + 0} {y = d} (omega arith) in
+      omega arith
   members-mono d (suc k) =
-      let e : members (d + suc k) m ≡ members (d + k) m + bit (has m (d + k)) = ap (λ (k : ℕ). members k m) {x = d + suc k} {y = suc (d + k)} (omega arith) in
+      let e : members (d + suc k) m ≡ members (d + k) m + bit (has m (d + k)) =
+      ap (λ (k : ℕ). members k m) {x = d + suc k} {y = suc (d + k)} (omega arith) in
       omega (arith, members-mono d k)
 
   module _ {out : List ℕ} {at : ℕ} (d : ℕ) {mid : List ℕ} {p : ℕ} (w : Written out at (spellAll encode (disksBelow d m)) mid p) where
-    pub disk-in : {next : ℕ} {after : List ℕ} → has m d ≡ true → d < 64 → at + length (spellAll encode (disksOf m)) ≤ length out → Put d mid p next after → Written out at (spellAll encode (disksBelow (d + 1) m)) after next
+    pub disk-in : {next : ℕ} {after : List ℕ} → has m d ≡ true → d < 64 → at + length (spellAll encode (disksOf m)) ≤ length out
+        → Put d mid p next after → Written out at (spellAll encode (disksBelow (d + 1) m)) after next
     unfolding disksOf
     disk-in {next} {after} t l room f =
         let one : widthOf d ≡ 1 = width-one d (omega arith) in
         let more : members (suc d) m ≤ members (suc d + (64 - suc d)) m = members-mono (suc d) (64 - suc d) in
-        let all : members (suc d + (64 - suc d)) m ≡ members 64 m = ap (λ (k : ℕ). members k m) {x = suc d + (64 - suc d)} {y = 64} (omega arith) in
+        let all : members (suc d + (64 - suc d)) m
+        ≡ members 64 m = ap (λ (k : ℕ). members k m) {x = suc d + (64 - suc d)} {y = 64} (omega arith) in
         let e : spellAll encode (disksBelow d m) ++ encode d ≡ spellAll encode (disksBelow (d + 1) m) =
         sym (disks-in d t) ∙ ap (λ (k : ℕ). spellAll encode (disksBelow k m)) {x = suc d} {y = d + 1} (omega arith) in
         subst (λ (x : List ℕ). Written out at x after next) e
@@ -100,16 +125,26 @@ module _ (m : ℕ) where
         disks-length 64 (omega arith),
       )
 
-  module _ {out : List ℕ} {at k p : ℕ} {mid : List ℕ} (e : k ≡ members 64 m) (h : at + length (blockBytes m) ≤ length out) (f : Put k out at p mid) where
+  module _ {out : List ℕ} {at k p : ℕ} {mid : List ℕ} (e : k ≡ members 64 m) (h : at + length (blockBytes m) ≤ length out)
+      (f : Put k out at p mid) where
     count-put : Written out at (encode k) mid p
     count-put = put-one f (omega (arith, block-length, width-one k (omega (arith, e, members-le 64 m))))
 
     -- behind the copy count there is room for the disks
     pub block-room : p + length (spellAll encode (disksOf m)) ≤ length mid
     unfolding disksOf widthOf
-    block-room = omega (arith, e, block-length, count-put .place, written-length count-put, width-one k (omega (arith, e, members-le 64 m)), disks-length 64 (omega arith))
+    block-room = omega (
+      arith,
+      e,
+      block-length,
+      count-put .place,
+      written-length count-put,
+      width-one k (omega (arith, e, members-le 64 m)),
+      disks-length 64 (omega arith),
+    )
 
-    pub block-put : {next : ℕ} {after : List ℕ} → Written mid p (spellAll encode (disksOf m)) after next → Written out at (blockBytes m) after next
+    pub block-put : {next : ℕ} {after : List ℕ} → Written mid p (spellAll encode (disksOf m)) after next
+        → Written out at (blockBytes m) after next
     unfolding blockBytes disksOf
     block-put {next} {after} w =
         let q : encode k ≡ encode (length (disksBelow 64 m)) = ap encode (e ∙ sym (disks-count 64)) in
@@ -118,7 +153,8 @@ module _ (m : ℕ) where
 -- ---- block after block
 
 module _ (ms : List ℕ) (i : ℕ) {out : List ℕ} {at : ℕ} {mid : List ℕ} {p : ℕ} where
-  pub blocks-more : {next : ℕ} {after : List ℕ} → i < length ms → Written out at (spellAll blockBytes (take i ms)) mid p → Written mid p (blockBytes (getD ms i 0)) after next → Written out at (spellAll blockBytes (take (i + 1) ms)) after next
+  pub blocks-more : {next : ℕ} {after : List ℕ} → i < length ms → Written out at (spellAll blockBytes (take i ms)) mid p
+      → Written mid p (blockBytes (getD ms i 0)) after next → Written out at (spellAll blockBytes (take (i + 1) ms)) after next
   blocks-more {next} {after} l w f = subst (λ (x : List ℕ). Written out at x after next) (spell-more blockBytes ms i 0 l) (written-join w f)
 
   pub blocks-all : Written out at (spellAll blockBytes (take i ms)) mid p → i ≡ length ms → Written out at (spellAll blockBytes ms) mid p

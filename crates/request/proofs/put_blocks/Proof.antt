@@ -14,7 +14,8 @@ use Rattle.request.proofs.put_blocks.Statement.{statement}
 use Rattle.request.proofs.put_blocks.Tie as tie
 
 abbrev Inv-loop : tie.InvT-loop
-Inv-loop copies out₀ at p₀ i₀ out p i = (i ≤ length copies) × (at + length (spellAll blockBytes copies) ≤ length out₀) × Wrote out₀ at (spellAll blockBytes (take i copies)) out p
+Inv-loop copies out₀ at p₀ i₀ out p i = (i ≤ length copies) × (at + length (spellAll blockBytes copies) ≤ length out₀)
+    × Wrote out₀ at (spellAll blockBytes (take i copies)) out p
 
 abbrev μ-loop : tie.MeasureT-loop
 μ-loop copies out₀ at p₀ i₀ out p i = length copies - i
@@ -23,23 +24,18 @@ loop-holds : tie.Need-loop-holds Inv-loop μ-loop
 unfolding spellAll
 loop-holds c = (omega arith, c .before .before .pre, written-none _ _ (omega (arith, c .before .before .pre)))
 
-mul-put-block : tie.Need-mul-put-block Inv-loop μ-loop
-mul-put-block c = search needs
-
-shared-slice-read-put-block : tie.Need-shared-slice-read-put-block Inv-loop μ-loop
-shared-slice-read-put-block c = search needs
-
 put-block-requires : tie.Need-put-block-requires Inv-loop μ-loop
-put-block-requires c κs = spell-room blockBytes _ _ 0 (c .before .before .loop-test .taken) (c .before .before .before .loop .inv .2) (c .before .before .before .loop .inv .1)
-
-add-i : tie.Need-add-i Inv-loop μ-loop
-add-i c = search needs
-
-loop-less : tie.Need-loop-less Inv-loop μ-loop
-loop-less c = search needs
+put-block-requires c κs = spell-room blockBytes _ _ 0 (c .before .before .loop-test .taken) (c .before .before .before .loop .inv .2)
+    (c .before .before .before .loop .inv .1)
 
 loop-again : tie.Need-loop-again Inv-loop μ-loop
-loop-again c = (omega (arith, c .before .before .before .before .before .loop-test .taken), c .before .before .before .before .before .before .loop .inv .1, blocks-more _ _ (c .before .before .before .before .before .loop-test .taken) (c .before .before .before .before .before .before .loop .inv .2) (c .before .before .put-block .ensures))
+loop-again c = (
+  omega (arith, c .before .before .before .before .before .loop-test .taken),
+  c .before .before .before .before .before
+      .before .loop .inv .1,
+  blocks-more _ _ (c .before .before .before .before .before .loop-test .taken)
+      (c .before .before .before .before .before .before .loop .inv .2) (c .before .before .put-block .ensures),
+)
 
 same-length : tie.Need-same-length Inv-loop μ-loop
 same-length c = written-length (c .before .loop .inv .2)
@@ -54,11 +50,11 @@ put-blocks-spec =
     Inv-loop
     μ-loop
     loop-holds
-    mul-put-block
-    shared-slice-read-put-block
+    (λ c. search needs)
+    (λ c. search needs)
     put-block-requires
-    add-i
-    loop-less
+    (λ c. search needs)
+    (λ c. search needs)
     loop-again
     same-length
     returns)
