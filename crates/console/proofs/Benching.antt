@@ -7,11 +7,11 @@ use native.Mathlib.Omega.{arith}
 use borrow.Author.Tests.{le-leb, ltb-true}
 use lib.Dec.{ltb}
 use lib.ListN.{length, take, drop}
-use Rattle.number.specs.Choice.{pick}
-use Rattle.number.proofs.Choice.{pick-true, pick-elim, paired}
+use Rattle.basics.specs.Choice.{pick}
+use Rattle.basics.proofs.Choice.{pick-true, pick-elim}
+use Rattle.basics.proofs.Tests.{and-both}
 use Rattle.field.specs.declared.Refusal.{Refusal}
-use Rattle.field.specs.declared.Written.the-variants.{Length}
-use Rattle.field.specs.declared.Written.the-variants.{Refused as NotWritten}
+use Rattle.field.specs.declared.Written.the-variants.{Length, Refused as NotWritten}
 use Rattle.field.specs.Field.{number, end}
 use Rattle.field.specs.Refusal.{numberOf}
 use Rattle.field.specs.Send.{toldWritten}
@@ -22,21 +22,19 @@ use Rattle.settings.specs.declared.Table.{Table}
 use Rattle.settings.specs.Sheet.{settingsSheet}
 use Rattle.plan.specs.declared.Head.{Head}
 use Rattle.plan.specs.declared.Answer.{Answer}
-use Rattle.plan.specs.declared.Answer.the-variants.{Accepted}
-use Rattle.plan.specs.declared.Answer.the-variants.{Refused as NoPlan}
+use Rattle.plan.specs.declared.Answer.the-variants.{Accepted, Refused as NoPlan}
 use Rattle.plan.specs.Draft.{planBytes}
 use Rattle.plan.specs.Plan.{Plan, planSheet}
 use Rattle.plan.specs.Range.{InRange}
 use Rattle.plan.specs.Receive.{roomFor, settle as settledOf, heads, Received}
 use Rattle.plan.specs.Told.{toldPlan}
 use Rattle.plan.proofs.Longest.{longest-fits}
-use Rattle.plan.proofs.Over.{over-within, over-front}
+use Rattle.basics.proofs.Buffer.{over-within, over-front}
 use Rattle.plan.proofs.Receiving.{Took, took}
 use Rattle.plan.proofs.RoundTrip.{sheet-read, same-plan}
 use Rattle.plan.proofs.Sending.{sent-all}
 use Rattle.unit.specs.declared.Answer.{Answer as Verdicts}
-use Rattle.unit.specs.declared.Answer.the-variants.{Accepted as Taken}
-use Rattle.unit.specs.declared.Answer.the-variants.{Refused as Denied}
+use Rattle.unit.specs.declared.Answer.the-variants.{Accepted as Taken, Refused as Denied}
 use Rattle.unit.specs.declared.Done.{Done}
 use Rattle.unit.specs.declared.Planned.{Planned}
 use Rattle.unit.specs.declared.Unit.{Unit}
@@ -217,7 +215,7 @@ module _ (unit t : ℕ) (s disks short : List ℕ) where
   unfolding toldPlan settledOf heads roomFor
   back-never e disks′ short′ w a b m n p r l q =
       let x : planSheet unit t s 0 ≡ got p (length (planBytes unit t p)) = ap (λ (z : List ℕ). planSheet unit t z 0) q ∙ sheet-read unit t p a l b r in
-      let room : roomFor p disks short ≡ true = paired (le-leb (length (p .disks)) (length disks) (omega (arith, r .few))) (le-leb (length (p .short)) (length short) (omega (arith, r .few, r .size-to))) in
+      let room : roomFor p disks short ≡ true = and-both _ _ (le-leb (length (p .disks)) (length disks) (omega (arith, r .few))) (le-leb (length (p .short)) (length short) (omega (arith, r .few, r .size-to))) in
       let y : refused (numberOf e) ≡ heads (got p (length (planBytes unit t p))) = w .answer ∙ ap (λ (o : Out Plan). heads (settledOf o disks short)) x ∙ ap heads (pick-true _ _ room) in
       let z : _≡_ {A = ℕ} 0 1 = cc in
       omega arith

@@ -13,20 +13,21 @@ use borrow.Author.Tests.{le-ltb}
 use lib.Dec.{lit<}
 use lib.ListN.{length, take}
 use Rattle.number.specs.Bytes.{Bytes}
-use Rattle.number.specs.Choice.{pick}
-use Rattle.number.proofs.Choice.{pick-false, pick-elim}
+use Rattle.basics.specs.Choice.{pick}
+use Rattle.basics.proofs.Choice.{pick-false, pick-elim}
 use Rattle.field.specs.Put.{spellAll}
 use Rattle.field.specs.Send.{Draft, sheet, none, answerTo}
 use Rattle.field.specs.Sheet.{Out, got, refused}
 use Rattle.field.proofs.Known.{Known, Answers}
-use Rattle.field.specs.Lists.{All}
+use Rattle.basics.specs.Lists.{All}
 use Rattle.settings.specs.Draft.{settingsDraft}
 use Rattle.settings.proofs.Writing.{draft-either}
 use Rattle.request.specs.Draft.{checked, requestDraft}
 use Rattle.plan.specs.Plan.{Plan, planSheet}
 use Rattle.plan.proofs.Known.{numbered-plan}
-use Rattle.plan.specs.Receive.{settle, heads, over}
-use Rattle.plan.proofs.Over.{over-front}
+use Rattle.plan.specs.Receive.{settle, heads}
+use Rattle.basics.specs.Buffer.{over}
+use Rattle.basics.proofs.Buffer.{over-front}
 use Rattle.lent.specs.Numbers.{bytesOf, numbers, broken}
 use Rattle.lent.specs.Packed.{writerAnswer, readerAnswer, refusalIn, lengthIn}
 use Rattle.desk.specs.Desk.{settingsDraftOfBytes, requestDraftOfBytes, Exported, planOf, setLeft, PlanRead}

@@ -11,22 +11,24 @@ use lib.ListN.{length, take, drop, length-append}
 use lib.Dec.{leb}
 use lib.Seq.{take-take, length-take-le}
 use Rattle.number.specs.Bytes.{Bytes}
-use Rattle.number.specs.Choice.{pick}
-use Rattle.number.proofs.Choice.{pick-true, pick-false, either, both}
+use Rattle.basics.specs.Choice.{pick}
+use Rattle.basics.proofs.Choice.{pick-true, pick-false}
+use Rattle.basics.proofs.Tests.{by-cases, both}
 use Rattle.field.specs.declared.Refusal.{Refusal}
 use Rattle.field.specs.Refusal.{numberOf}
 use Rattle.field.specs.Put.{spellAll}
 use Rattle.field.specs.Sheet.{Out, got, refused}
-use Rattle.field.specs.Lists.{All, Rises}
+use Rattle.basics.specs.Lists.{All, Rises}
 use Rattle.plan.specs.declared.Head.{Head}
 use Rattle.plan.specs.declared.Answer.{Answer}
 use Rattle.plan.specs.declared.Answer.the-variants.{Accepted, Refused}
 use Rattle.plan.specs.Plan.{Plan, planSheet}
 use Rattle.plan.specs.Range.{InRange}
-use Rattle.plan.specs.Receive.{roomFor, settle, heads, over, disksLeft, shortLeft, Received}
+use Rattle.plan.specs.Receive.{roomFor, settle, heads, disksLeft, shortLeft, Received}
+use Rattle.basics.specs.Buffer.{over}
 use Rattle.plan.specs.Told.{toldPlan}
 use Rattle.plan.proofs.Bounds.{any-most}
-use Rattle.plan.proofs.Over.{over-front}
+use Rattle.basics.proofs.Buffer.{over-front}
 use Rattle.plan.proofs.RoundTrip.{sheet-exact}
 use Rattle.lent.specs.Numbers.{bytesOf, numbers, Room}
 use Rattle.lent.specs.Packed.{readerAnswer, FitsBits}
@@ -61,9 +63,9 @@ plan-packable unit t s p e b h =
 
 leb-same : (m x y : ℕ) → (m ≤ x → m ≤ y) → (m ≤ y → m ≤ x) → leb m x ≡ leb m y
 leb-same m x y f g =
-    either (leb m y)
+    by-cases (leb m y)
     (λ t. le-leb m x (g (leb-true _ _ t)) ∙ sym t)
-    (λ n. either (leb m x) (λ t. t ∙ sym (le-leb m y (f (leb-true _ _ t)))) (λ k. k ∙ sym n))
+    (λ n. by-cases (leb m x) (λ t. t ∙ sym (le-leb m y (f (leb-true _ _ t)))) (λ k. k ∙ sym n))
 
 settle-same : (o : Out Plan) (disks a b : List ℕ)
     → ((p : Plan) (e : ℕ) → o ≡ got p e → leb (length (p .short)) (length a) ≡ leb (length (p .short)) (length b))
@@ -90,7 +92,7 @@ settled-got : (o : Out Plan) (disks short : List ℕ) (p : Plan) (e : ℕ) → s
 unfolding settle
 settled-got (refused n) disks short p e h = absurd (let z : _≡_ {A = ℕ} 0 1 = cc in omega arith)
 settled-got (got x n) disks short p e h =
-    either (roomFor x disks short)
+    by-cases (roomFor x disks short)
     (λ t. sym (pick-true _ _ t) ∙ h)
     (λ f. let v : refused 11 ≡ got p e = sym (pick-false _ _ f) ∙ h in absurd (let z : _≡_ {A = ℕ} 0 1 = cc in omega arith))
 
@@ -115,7 +117,7 @@ settled : (unit t : ℕ) (s disks short : List ℕ) (h : Head) (n : ℕ) (o : Ou
 unfolding settle roomFor heads
 settled unit t s disks short h n (refused m) b q w = absurd (let o : _≡_ {A = ℕ} 0 1 = cc in omega arith)
 settled unit t s disks short h n (got p e) b q w =
-    either (leb (length (p .disks)) (length disks) && leb (length (p .short)) (length short))
+    by-cases (leb (length (p .disks)) (length disks) && leb (length (p .short)) (length short))
     (λ y.
     let x : pick (leb (length (p .disks)) (length disks) && leb (length (p .short)) (length short)) (got p e) (refused 11)
     ≡ got p e = pick-true _ _ y in

@@ -11,7 +11,8 @@ use native.Mathlib.Omega.{arith}
 use borrow.Author.Tests.{lt-ltb}
 use lib.ListN.{length}
 use lib.Dec.{leb}
-use Rattle.number.proofs.Choice.{pick-true, pick-false, pick-elim, either}
+use Rattle.basics.proofs.Choice.{pick-true, pick-false, pick-elim}
+use Rattle.basics.proofs.Tests.{by-cases}
 use Rattle.field.specs.declared.Written.{Written}
 use Rattle.field.specs.declared.Written.the-variants.{Length, Refused}
 use Rattle.field.specs.Send.{Draft, sheet, none, toldWritten, answerTo, leftBy, Sent}
@@ -52,7 +53,7 @@ short-sent d out (Refused e) after s few = tt
 short-sent (none k) out (Length n) after s few =
     let q : got tt n ≡ refused k = s .answer in absurd (let z : _≡_ {A = ℕ} 0 1 = cc in omega arith)
 short-sent (sheet bs) out (Length n) after s few =
-    either (leb (length bs) (length out))
+    by-cases (leb (length bs) (length out))
     (λ t. let q : got tt n ≡ got tt (length bs) = s .answer ∙ pick-true _ _ t in let m : n ≡ length bs = cc in
     omega (arith, m, few bs refl))
     (λ f. let q : got tt n ≡ refused 11 = s .answer ∙ pick-false _ _ f in absurd (let z : _≡_ {A = ℕ} 0 1 = cc in omega arith))

@@ -8,14 +8,15 @@ use Prim.Native.Nat.{ℕ}
 use mathlib.Core.Bool.{_||_}
 use mathlib.Core.Path.{_≡_}
 use mathlib.Core.List.{List}
-use Rattle.number.specs.Choice.{pick}
+use Rattle.basics.specs.Choice.{pick}
 use Rattle.field.specs.Put.{spellAll}
 use Rattle.field.specs.Send.{Draft, none, answerTo, leftBy}
 use Rattle.field.specs.Sheet.{Out, got, refused}
 use Rattle.settings.specs.Draft.{settingsDraft}
 use Rattle.request.specs.Draft.{requestDraft}
 use Rattle.plan.specs.Plan.{Plan, planSheet}
-use Rattle.plan.specs.Receive.{settle, heads, over, disksLeft}
+use Rattle.plan.specs.Receive.{settle, heads, disksLeft}
+use Rattle.basics.specs.Buffer.{over}
 use Rattle.lent.specs.Numbers.{bytesOf, numbers, broken}
 use Rattle.lent.specs.Packed.{writerAnswer, readerAnswer}
 

@@ -20,8 +20,8 @@ use Rattle.model.specs.Shortfall.{size, Sub, NoShorter, Greatest, ShortSet}
 use Rattle.model.specs.Time.{LeastTime}
 use Rattle.model.specs.Order.{Agree, FirstOf}
 use Rattle.model.specs.Plan.{Optimal}
-use Rattle.model.proofs.Bool.{by-cases}
-use Rattle.model.proofs.Sum.{count-ext}
+use Rattle.basics.proofs.Tests.{by-cases}
+use Rattle.basics.proofs.Count.{count-ext}
 use Rattle.model.proofs.Capacity.{response-within, within-response}
 use Rattle.model.proofs.Duality.{room-ext}
 use Rattle.model.proofs.Time.{certificate-least}

@@ -11,9 +11,9 @@ use lib.Dec.{eqb, ltb}
 use lib.ListN.{getD, set, length, length-set, List·getD-eq-default}
 use lib.Seq.{getD-set-same, getD-set-other}
 use borrow.Author.Tests.{ltb-true, ltb-false, eqb-true, eqb-false, eq-eqb, ne-eqb}
-use Rattle.model.specs.Count.{any}
-use Rattle.model.proofs.Bool.{by-cases, differ, or-right, not-here}
-use Rattle.model.proofs.Sum.{any-ext, any-some}
+use Rattle.basics.specs.Count.{any}
+use Rattle.basics.proofs.Tests.{by-cases, differ, or-right, not-here}
+use Rattle.basics.proofs.Count.{any-ext, any-some}
 use Rattle.order.proofs.Spreads.{below-step}
 use Rattle.engine.specs.Planned.{listed, Rising}
 use Rattle.engine.specs.Steps.{Loaded, Stored}

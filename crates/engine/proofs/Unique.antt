@@ -11,10 +11,10 @@ use lib.Dec.{eqb, ltb}
 use lib.ListN.{getD, length}
 use lib.Seq.{ext-getD}
 use borrow.Author.Tests.{ltb-true, ltb-false, eqb-true, eqb-false, eq-eqb}
-use Rattle.model.specs.Count.{any}
+use Rattle.basics.specs.Count.{any}
 use Rattle.model.specs.Order.{Agree}
-use Rattle.model.proofs.Bool.{by-cases}
-use Rattle.model.proofs.Sum.{any-here, any-some, below-suc}
+use Rattle.basics.proofs.Tests.{by-cases, below-suc}
+use Rattle.basics.proofs.Count.{any-here, any-some}
 use Rattle.model.proofs.Plan.{plan-unique}
 use Rattle.engine.specs.Spelled.{spelled}
 use Rattle.engine.specs.Planned.{listed, Rising, Planned}

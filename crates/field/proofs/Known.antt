@@ -10,13 +10,11 @@ use native.Mathlib.Omega.{arith}
 use lib.Dec.{eqb, ltb}
 use lib.ListN.{length, drop}
 use Rattle.basics.specs.Limits.{refusalsMost}
-use Rattle.number.specs.Choice.{pick}
-use Rattle.number.proofs.Choice.{pick-elim}
-use Rattle.number.specs.Decode.{Decoded, value, under, more, decode}
-use Rattle.number.specs.Decode.{refused as bad}
+use Rattle.basics.specs.Choice.{pick}
+use Rattle.basics.proofs.Choice.{pick-elim}
+use Rattle.number.specs.Decode.{Decoded, value, under, more, decode, refused as bad}
 use Rattle.field.specs.declared.Refusal.{Refusal}
-use Rattle.field.specs.declared.Refusal.the-variants.{SheetEnds, BadNumber, WrongKind, WrongUnit, WrongTenancy, OutOfRange, NoCopy}
-use Rattle.field.specs.declared.Refusal.the-variants.{NotRising, BytesFollow, NoSettings, NoRoom, Rented, NotAbove, NotTheTenant}
+use Rattle.field.specs.declared.Refusal.the-variants.{SheetEnds, BadNumber, WrongKind, WrongUnit, WrongTenancy, OutOfRange, NoCopy, NotRising, BytesFollow, NoSettings, NoRoom, Rented, NotAbove, NotTheTenant}
 use Rattle.field.specs.Refusal.{numberOf}
 use Rattle.field.specs.Sheet.{Out, got, refused, Parser, andThen, _>>=_, _>>_, pure, require, times}
 use Rattle.field.specs.Field.{taken, number, exactly, tenancy, inside, rising, ascending, opening, end, whole}

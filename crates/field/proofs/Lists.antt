@@ -14,7 +14,7 @@ use Rattle.number.specs.Bytes.{Bytes}
 use Rattle.number.specs.Encode.{encode}
 use Rattle.field.specs.Sheet.{Out, got, refused, Parser, andThen, _>>=_, pure, times}
 use Rattle.field.specs.Field.{rising, ascending}
-use Rattle.field.specs.Lists.{All, Rises}
+use Rattle.basics.specs.Lists.{All, Rises}
 use Rattle.field.specs.Put.{spellAll}
 use Rattle.field.proofs.Sheet.{next, stops, Step, bind-got, pure-got}
 use Rattle.field.proofs.Read.{Reads, reads-bind, reads-checked, reads-pure, reads-rising}

@@ -9,10 +9,9 @@ use native.Mathlib.Omega.{arith}
 use borrow.Author.Tests.{lt-ltb, eqb-false}
 use lib.ListN.{length, drop, getD, length-drop}
 use lib.Seq.{drop-cons}
-use Rattle.number.specs.Choice.{pick}
-use Rattle.number.proofs.Choice.{pick-true, pick-elim}
-use Rattle.number.specs.Decode.{Decoded, value, under, more, decode}
-use Rattle.number.specs.Decode.{refused as bad}
+use Rattle.basics.specs.Choice.{pick}
+use Rattle.basics.proofs.Choice.{pick-true, pick-elim}
+use Rattle.number.specs.Decode.{Decoded, value, under, more, decode, refused as bad}
 use Rattle.number.proofs.Decode.{decode-none}
 use Rattle.field.specs.Sheet.{got, refused}
 use Rattle.field.specs.Field.{taken, number}

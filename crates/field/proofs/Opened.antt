@@ -13,7 +13,7 @@ use Rattle.number.specs.Bytes.{Bytes}
 use Rattle.number.specs.Encode.{encode, widthOf}
 use Rattle.field.specs.Sheet.{got, _>>_}
 use Rattle.field.specs.Field.{exactly, tenancy, opening}
-use Rattle.field.specs.Put.{openingBytes, Put, Written}
+use Rattle.field.specs.Put.{openingBytes, PutOne, Laid}
 use Rattle.field.proofs.Sheet.{Step, after-got}
 use Rattle.field.proofs.Puts.{put-three}
 use Rattle.field.proofs.Read.{Reads, reads-then, reads-exactly, reads-tenancy}
@@ -64,6 +64,6 @@ module _ (kind unit t : ℕ) where
   unfolding openingBytes widthOf
   opening-length = omega (arith, length-append (encode kind) (encode unit ++ encode t), length-append (encode unit) (encode t))
 
-  pub opening-put : {out x y z : List ℕ} {p q next : ℕ} → Put kind out 0 p x → Put unit x p q y → Put t y q next z → length (openingBytes kind unit t) ≤ length out → Written out 0 (openingBytes kind unit t) z next
+  pub opening-put : {out x y z : List ℕ} {p q next : ℕ} → PutOne kind out 0 p x → PutOne unit x p q y → PutOne t y q next z → length (openingBytes kind unit t) ≤ length out → Laid out 0 (openingBytes kind unit t) z next
   unfolding openingBytes
   opening-put f g h l = put-three f g h (omega arith)

@@ -13,51 +13,53 @@ use borrow.Rule.Slice.PartMut.{putMid}
 use lib.Dec.{leb}
 use lib.ListN.{length, take, drop, getD, length-append, length-drop, take-append-drop}
 use lib.Seq.{length-take-le, drop-drop, take-at, drop-append-add, split-at}
-use Rattle.number.specs.Encode.{encode, widthOf, Wrote, written, fits}
-use Rattle.number.proofs.Choice.{pick-true, pick-false, pick-elim, either}
+use Rattle.number.specs.Encode.{encode, widthOf, WroteNumber, written, fits}
+use Rattle.basics.proofs.Choice.{pick-true, pick-false, pick-elim}
+use Rattle.basics.proofs.Tests.{by-cases}
 use Rattle.number.proofs.Encode.{wrote-room, wrote-none}
-use Rattle.number.proofs.Part.{rest, put-rest}
-use Rattle.field.specs.Put.{paste, spellAll, hasRoom, Put, Written}
+use Rattle.basics.proofs.Buffer.{rest, put-rest}
+use Rattle.basics.specs.Buffer.{paste}
+use Rattle.field.specs.Put.{spellAll, hasRoom, PutOne, Laid}
 use Rattle.field.proofs.Spell.{spell-append}
 
 -- ---- one field
 
 module _ (v : ℕ) (out : List ℕ) (at : ℕ) where
-  pub put-room : at + widthOf v ≤ length out → Put v out at (at + widthOf v) (paste out at (encode v))
+  pub put-room : at + widthOf v ≤ length out → PutOne v out at (at + widthOf v) (paste out at (encode v))
   unfolding hasRoom
   put-room h = record { place = sym (pick-true _ _ (le-leb _ _ h)); held = sym (pick-true _ _ (le-leb _ _ h)) }
 
-  pub put-none : length out < at + widthOf v → Put v out at at out
+  pub put-none : length out < at + widthOf v → PutOne v out at at out
   unfolding hasRoom
   put-none h = record { place = sym (pick-false _ _ (lt-leb _ _ h)); held = sym (pick-false _ _ (lt-leb _ _ h)) }
 
   -- past the end nothing has room
-  pub put-past : length out < at → Put v out at at out
+  pub put-past : length out < at → PutOne v out at at out
   put-past h = put-none (omega arith)
 
   -- the number writer's work in `&mut out[at..]`
-  module _ (n : ℕ) (ys : List ℕ) (h : at ≤ length out) (w : Wrote v (take (length out - at) (drop at out)) n ys) where
+  module _ (n : ℕ) (ys : List ℕ) (h : at ≤ length out) (w : WroteNumber v (take (length out - at) (drop at out)) n ys) where
     part : take (length out - at) (drop at out) ≡ drop at out
     part = rest out at
 
-    pub put-of : Put v out at (at + n) (putMid at (length out - at) out ys)
+    pub put-of : PutOne v out at (at + n) (putMid at (length out - at) out ys)
     unfolding paste widthOf
     put-of =
-        either (leb (widthOf v) (length (drop at out)))
+        by-cases (leb (widthOf v) (length (drop at out)))
         (λ t.
         let room : widthOf v ≤ length (drop at out) = leb-true _ _ t in
-        let u : Wrote v (drop at out) (widthOf v) (encode v ++ drop (widthOf v) (drop at out)) = wrote-room v (drop at out) room in
-        let here : Wrote v (drop at out) n ys = rw part at w in
-        let p : Put v out at (at + widthOf v) (paste out at (encode v)) = put-room (omega (arith, length-drop at out)) in
+        let u : WroteNumber v (drop at out) (widthOf v) (encode v ++ drop (widthOf v) (drop at out)) = wrote-room v (drop at out) room in
+        let here : WroteNumber v (drop at out) n ys = rw part at w in
+        let p : PutOne v out at (at + widthOf v) (paste out at (encode v)) = put-room (omega (arith, length-drop at out)) in
         record {
           place = ap (λ (k : ℕ). at + k) (here .count ∙ sym (u .count)) ∙ p .place;
           held = put-rest out at ys ∙ ap (λ (z : List ℕ). take at out ++ z) (here .left ∙ sym (u .left) ∙ ap (λ (z : List ℕ). encode v ++ z) (drop-drop (widthOf v) at out)) ∙ p .held;
         })
         (λ f.
         let full : length (drop at out) < widthOf v = leb-false _ _ f in
-        let u : Wrote v (drop at out) 0 (drop at out) = wrote-none v (drop at out) full in
-        let here : Wrote v (drop at out) n ys = rw part at w in
-        let p : Put v out at at out = put-none (omega (arith, length-drop at out)) in
+        let u : WroteNumber v (drop at out) 0 (drop at out) = wrote-none v (drop at out) full in
+        let here : WroteNumber v (drop at out) n ys = rw part at w in
+        let p : PutOne v out at at out = put-none (omega (arith, length-drop at out)) in
         record {
           place = omega (arith, here .count, u .count) ∙ p .place;
           held = put-rest out at ys ∙ ap (λ (z : List ℕ). take at out ++ z) (here .left ∙ sym (u .left)) ∙ take-append-drop at out ∙ p .held;
@@ -91,7 +93,7 @@ paste-paste out at bs cs h =
     ∙ ap (λ (x : List ℕ). take at out ++ x) (sym (append-assoc bs cs (drop (at + length (bs ++ cs)) out)))
 
 -- no field yet
-pub written-none : (out : List ℕ) (at : ℕ) → at ≤ length out → Written out at [] out at
+pub written-none : (out : List ℕ) (at : ℕ) → at ≤ length out → Laid out at [] out at
 unfolding paste
 written-none out at h =
     let e : at + 0 ≡ at = omega arith in
@@ -102,11 +104,11 @@ written-none out at h =
     }
 
 -- one field more
-pub written-more : {out : List ℕ} {at : ℕ} {bs mid : List ℕ} {p : ℕ} {v next : ℕ} {after : List ℕ} → Written out at bs mid p → Put v mid p next after → p + widthOf v ≤ length out → Written out at (bs ++ encode v) after next
+pub written-more : {out : List ℕ} {at : ℕ} {bs mid : List ℕ} {p : ℕ} {v next : ℕ} {after : List ℕ} → Laid out at bs mid p → PutOne v mid p next after → p + widthOf v ≤ length out → Laid out at (bs ++ encode v) after next
 unfolding widthOf
 written-more {out} {at} {bs} {mid} {p} {v} {next} {after} w f h =
     let same : length mid ≡ length out = ap length (w .held) ∙ length-paste out at bs (w .fit) in
-    let r : Put v mid p (p + widthOf v) (paste mid p (encode v)) = put-room v mid p (omega (arith, same)) in
+    let r : PutOne v mid p (p + widthOf v) (paste mid p (encode v)) = put-room v mid p (omega (arith, same)) in
     record {
       fit = omega (arith, length-append bs (encode v), w .place);
       held = f .held ∙ sym (r .held) ∙ ap (λ (k : ℕ). paste mid k (encode v)) (w .place) ∙ ap (λ (x : List ℕ). paste x (at + length bs) (encode v)) (w .held)
@@ -116,10 +118,10 @@ written-more {out} {at} {bs} {mid} {p} {v} {next} {after} w f h =
 
 -- ---- bytes behind bytes
 
-pub written-length : {out : List ℕ} {at : ℕ} {bs after : List ℕ} {next : ℕ} → Written out at bs after next → length after ≡ length out
+pub written-length : {out : List ℕ} {at : ℕ} {bs after : List ℕ} {next : ℕ} → Laid out at bs after next → length after ≡ length out
 written-length {out} {at} {bs} w = ap length (w .held) ∙ length-paste out at bs (w .fit)
 
-pub written-join : {out : List ℕ} {at : ℕ} {bs mid : List ℕ} {p : ℕ} {cs after : List ℕ} {next : ℕ} → Written out at bs mid p → Written mid p cs after next → Written out at (bs ++ cs) after next
+pub written-join : {out : List ℕ} {at : ℕ} {bs mid : List ℕ} {p : ℕ} {cs after : List ℕ} {next : ℕ} → Laid out at bs mid p → Laid mid p cs after next → Laid out at (bs ++ cs) after next
 written-join {out} {at} {bs} {mid} {p} {cs} {after} {next} f g =
     let same : length mid ≡ length out = written-length f in
     record {
@@ -129,18 +131,18 @@ written-join {out} {at} {bs} {mid} {p} {cs} {after} {next} f g =
       place = omega (arith, g .place, f .place, length-append bs cs);
     }
 
-pub put-one : {v : ℕ} {out : List ℕ} {at next : ℕ} {after : List ℕ} → Put v out at next after → at + widthOf v ≤ length out → Written out at (encode v) after next
+pub put-one : {v : ℕ} {out : List ℕ} {at next : ℕ} {after : List ℕ} → PutOne v out at next after → at + widthOf v ≤ length out → Laid out at (encode v) after next
 put-one {v} {out} {at} f h = written-more (written-none out at (omega arith)) f h
 
 -- a field before what follows it
-pub put-then : {v : ℕ} {out : List ℕ} {at p : ℕ} {mid cs after : List ℕ} {next : ℕ} → Put v out at p mid → at + length (encode v ++ cs) ≤ length out → (p + length cs ≤ length mid → Written mid p cs after next) → Written out at (encode v ++ cs) after next
+pub put-then : {v : ℕ} {out : List ℕ} {at p : ℕ} {mid cs after : List ℕ} {next : ℕ} → PutOne v out at p mid → at + length (encode v ++ cs) ≤ length out → (p + length cs ≤ length mid → Laid mid p cs after next) → Laid out at (encode v ++ cs) after next
 unfolding widthOf
 put-then {v} {out} {at} {p} {mid} {cs} f h k =
-    let w : Written out at (encode v) mid p = put-one f (omega (arith, length-append (encode v) cs)) in
+    let w : Laid out at (encode v) mid p = put-one f (omega (arith, length-append (encode v) cs)) in
     written-join w (k (omega (arith, length-append (encode v) cs, w .place, written-length w)))
 
 -- three fields, one behind the other
-pub put-three : {a b c : ℕ} {out x y z : List ℕ} {at p q next : ℕ} → Put a out at p x → Put b x p q y → Put c y q next z → at + length (encode a ++ (encode b ++ encode c)) ≤ length out → Written out at (encode a ++ (encode b ++ encode c)) z next
+pub put-three : {a b c : ℕ} {out x y z : List ℕ} {at p q next : ℕ} → PutOne a out at p x → PutOne b x p q y → PutOne c y q next z → at + length (encode a ++ (encode b ++ encode c)) ≤ length out → Laid out at (encode a ++ (encode b ++ encode c)) z next
 unfolding widthOf
 put-three f g h l = put-then f l (λ m. put-then g m (λ k. put-one h k))
 
@@ -149,16 +151,16 @@ pub front-room : (bs cs out : List ℕ) → length (bs ++ cs) ≤ length out →
 front-room bs cs out h = omega (arith, length-append bs cs)
 
 -- a field behind what was written
-pub put-behind : {out : List ℕ} {bs mid : List ℕ} {p v next : ℕ} {after : List ℕ} → Written out 0 bs mid p → Put v mid p next after → length (bs ++ encode v) ≤ length out → Written out 0 (bs ++ encode v) after next
+pub put-behind : {out : List ℕ} {bs mid : List ℕ} {p v next : ℕ} {after : List ℕ} → Laid out 0 bs mid p → PutOne v mid p next after → length (bs ++ encode v) ≤ length out → Laid out 0 (bs ++ encode v) after next
 unfolding widthOf
 put-behind {bs = bs} {v = v} w f h = written-more w f (omega (arith, w .place, length-append bs (encode v)))
 
 -- the same under other names
-pub written-as : {out : List ℕ} {at : ℕ} {bs after after′ : List ℕ} {next next′ : ℕ} → after′ ≡ after → next′ ≡ next → Written out at bs after next → Written out at bs after′ next′
+pub written-as : {out : List ℕ} {at : ℕ} {bs after after′ : List ℕ} {next next′ : ℕ} → after′ ≡ after → next′ ≡ next → Laid out at bs after next → Laid out at bs after′ next′
 written-as e q w = record { fit = w .fit; held = e ∙ w .held; place = q ∙ w .place }
 
 -- what was written lies within the part
-pub wrote-fits : (v : ℕ) (out : List ℕ) (n : ℕ) (ys : List ℕ) → Wrote v out n ys → n ≤ length out
+pub wrote-fits : (v : ℕ) (out : List ℕ) (n : ℕ) (ys : List ℕ) → WroteNumber v out n ys → n ≤ length out
 unfolding written fits
 wrote-fits v out n ys w = rw (w .count) (pick-elim (λ (k : ℕ). k ≤ length out) _ _ _ (λ t. leb-true _ _ t) (λ _. omega arith))
 
@@ -168,7 +170,7 @@ module _ {A : Type 0} (spell : A → List ℕ) (ms : List A) (i : ℕ) (z : A) (
   unfolding spellAll
   spell-split = ap (spellAll spell) (split-at ms i z l) ∙ spell-append spell (take i ms) (getD ms i z ∷ drop (suc i) ms)
 
-  pub spell-room : {out : List ℕ} {at p : ℕ} {mid : List ℕ} → Written out at (spellAll spell (take i ms)) mid p → at + length (spellAll spell ms) ≤ length out → p + length (spell (getD ms i z)) ≤ length mid
+  pub spell-room : {out : List ℕ} {at p : ℕ} {mid : List ℕ} → Laid out at (spellAll spell (take i ms)) mid p → at + length (spellAll spell ms) ≤ length out → p + length (spell (getD ms i z)) ≤ length mid
   spell-room {out} {at} {p} {mid} w h =
       omega (
         arith,

@@ -14,7 +14,7 @@ use lib.ListN.{length, length-append}
 use lib.Seq.{drop-append-seam}
 use Rattle.number.specs.Decode.{decode}
 use Rattle.number.specs.Encode.{encode, widthOf}
-use Rattle.number.proofs.Choice.{pick-true}
+use Rattle.basics.proofs.Choice.{pick-true}
 use Rattle.number.proofs.RoundTrip.{decode-encode}
 use Rattle.field.specs.Sheet.{got, Parser, _>>=_, _>>_, pure, require}
 use Rattle.field.specs.Field.{taken, number, exactly, tenancy, inside, rising, end, whole}

@@ -6,9 +6,9 @@ use native.Mathlib.Omega.{arith}
 use borrow.Author.Tests.{eq-eqb, ne-eqb, lt-ltb, le-ltb, le-leb, lt-leb}
 use lib.ListN.{length, take, drop, length-drop}
 use Rattle.number.specs.Decode.{decode}
-use Rattle.number.proofs.Part.{rest}
+use Rattle.basics.proofs.Buffer.{rest}
 use Rattle.number.proofs.Decode.{decode-none}
-use Rattle.number.proofs.Choice.{pick-true, pick-false}
+use Rattle.basics.proofs.Choice.{pick-true, pick-false}
 use Rattle.field.specs.Sheet.{Out, got, refused, pure}
 use Rattle.field.specs.declared.Field.{Field}
 use Rattle.field.specs.declared.Field.the-variants.{Got, Refused}

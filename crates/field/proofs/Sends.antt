@@ -7,12 +7,14 @@ use borrow.Author.Tests.{le-leb, lt-leb, leb-true, leb-false}
 use lib.Dec.{leb}
 use lib.ListN.{length, take, drop}
 use lib.Seq.{take-at}
-use Rattle.number.proofs.Choice.{pick-true, pick-false, either}
+use Rattle.basics.proofs.Choice.{pick-true, pick-false}
+use Rattle.basics.proofs.Tests.{by-cases}
 use Rattle.field.specs.declared.Written.{Written}
 use Rattle.field.specs.declared.Written.the-variants.{Length, Refused}
 use Rattle.field.specs.declared.Refusal.{Refusal}
 use Rattle.field.specs.declared.Refusal.the-variants.{NoRoom}
-use Rattle.field.specs.Put.{paste, Written as Wrote}
+use Rattle.basics.specs.Buffer.{paste}
+use Rattle.field.specs.Put.{Laid}
 use Rattle.field.specs.Refusal.{numberOf}
 use Rattle.field.specs.Send.{Draft, sheet, none, toldWritten, answerTo, leftBy, Sent}
 use Rattle.field.specs.Sheet.{got, refused}
@@ -29,7 +31,7 @@ unfolding toldWritten answerTo leftBy numberOf
 sent-long bs out h = record { answer = sym (pick-false _ _ (lt-leb _ _ h)); held = sym (pick-false _ _ (lt-leb _ _ h)) }
 
 -- it was written from the first byte on
-pub sent-fits : {bs out : List ℕ} {n : ℕ} {after : List ℕ} → Wrote out 0 bs after n → Sent (sheet bs) out (Length n) after
+pub sent-fits : {bs out : List ℕ} {n : ℕ} {after : List ℕ} → Laid out 0 bs after n → Sent (sheet bs) out (Length n) after
 unfolding toldWritten answerTo leftBy
 sent-fits {bs} {out} {n} {after} w =
     let l : length bs ≤ length out = omega (arith, w .fit) in
@@ -40,7 +42,7 @@ sent-fits {bs} {out} {n} {after} w =
 pub sent-bytes : (bs out : List ℕ) (n : ℕ) (after : List ℕ) → Sent (sheet bs) out (Length n) after → (n ≡ length bs) × (take n after ≡ bs) × (n ≤ length out)
 unfolding toldWritten answerTo leftBy paste
 sent-bytes bs out n after w =
-    either (leb (length bs) (length out))
+    by-cases (leb (length bs) (length out))
     (λ t.
     let a : got tt n ≡ got tt (length bs) = w .answer ∙ pick-true _ _ t in
     let k : n ≡ length bs = cc in
@@ -51,7 +53,7 @@ sent-bytes bs out n after w =
 pub sent-not : (bs out : List ℕ) (e : Refusal) (after : List ℕ) → Sent (sheet bs) out (Refused e) after → (length out < length bs) × (numberOf e ≡ 11)
 unfolding toldWritten answerTo
 sent-not bs out e after w =
-    either (leb (length bs) (length out))
+    by-cases (leb (length bs) (length out))
     (λ t. absurd (let a : refused (numberOf e) ≡ got tt (length bs) = w .answer ∙ pick-true _ _ t in let z : _≡_ {A = ℕ} 0 1 = cc in omega arith))
     (λ f. let a : refused (numberOf e) ≡ refused 11 = w .answer ∙ pick-false _ _ f in (leb-false (length bs) (length out) f, cc))
 

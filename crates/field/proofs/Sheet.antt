@@ -9,8 +9,8 @@ use mathlib.Core.Bool.{Bool, true, false}
 use mathlib.Core.List.{List}
 use Prim.Native.Nat.{ℕ}
 use native.Mathlib.Omega.{arith}
-use Rattle.number.specs.Choice.{pick}
-use Rattle.number.proofs.Choice.{pick-true, pick-false}
+use Rattle.basics.specs.Choice.{pick}
+use Rattle.basics.proofs.Choice.{pick-true, pick-false}
 use Rattle.field.specs.Sheet.{Out, got, refused, Parser, andThen, _>>=_, _>>_, pure, require}
 
 module _ {A B : Type 0} (p : Parser A) where

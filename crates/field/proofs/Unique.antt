@@ -3,12 +3,12 @@ use mathlib.Core.Path.{_≡_, refl, sym, ap, _∙_}
 use mathlib.Core.List.{List}
 use Prim.Native.Nat.{ℕ}
 use lib.Dec.{eqb}
-use Rattle.number.specs.Choice.{pick}
+use Rattle.basics.specs.Choice.{pick}
 use Rattle.field.specs.declared.Field.{Field}
 use Rattle.field.specs.declared.Field.the-variants.{Got, Refused}
 use Rattle.field.specs.declared.Refusal.{Refusal}
 use Rattle.field.specs.declared.Refusal.the-variants.{SheetEnds, BadNumber, WrongKind, WrongUnit, WrongTenancy, OutOfRange, NoCopy, NotRising, BytesFollow, NoSettings, NoRoom, Rented, NotAbove, NotTheTenant}
-use Rattle.field.specs.Put.{Put, Written}
+use Rattle.field.specs.Put.{PutOne, Laid}
 use Rattle.field.specs.Refusal.{numberOf}
 use Rattle.field.specs.Sheet.{Out}
 use Rattle.field.specs.Told.{told}
@@ -65,7 +65,7 @@ pub reader-unique : (o : Out ℕ) (a b : Field) → told a ≡ o → told b ≡ 
 reader-unique o a b p q = told-injective a b (p ∙ sym q)
 
 -- `put`: the place and the buffer
-pub put-unique : (v : ℕ) (out : List ℕ) (at n m : ℕ) (x y : List ℕ) → Put v out at n x → Put v out at m y → (n ≡ m) × (x ≡ y)
+pub put-unique : (v : ℕ) (out : List ℕ) (at n m : ℕ) (x y : List ℕ) → PutOne v out at n x → PutOne v out at m y → (n ≡ m) × (x ≡ y)
 put-unique v out at n m x y p q = (p .place ∙ sym (q .place), p .held ∙ sym (q .held))
 
 -- `number_of`: the number
@@ -73,5 +73,5 @@ pub number-unique : (e : Refusal) (n m : ℕ) → n ≡ numberOf e → m ≡ num
 number-unique e n m p q = p ∙ sym q
 
 -- `put_opening`: the place and the buffer
-pub written-unique : (out : List ℕ) (at : ℕ) (bs : List ℕ) (n m : ℕ) (x y : List ℕ) → Written out at bs x n → Written out at bs y m → (n ≡ m) × (x ≡ y)
+pub written-unique : (out : List ℕ) (at : ℕ) (bs : List ℕ) (n m : ℕ) (x y : List ℕ) → Laid out at bs x n → Laid out at bs y m → (n ≡ m) × (x ≡ y)
 written-unique out at bs n m x y p q = (p .place ∙ sym (q .place), p .held ∙ sym (q .held))

@@ -13,7 +13,7 @@ use lib.Dec.{eqb, leb, ltb}
 use lib.ListN.{length, getD}
 use Rattle.field.specs.Sheet.{got, Parser, _>>=_, _>>_, pure, require, times}
 use Rattle.field.specs.Field.{number, tenancy, inside, rising, ascending}
-use Rattle.field.specs.Lists.{All, Rises}
+use Rattle.basics.specs.Lists.{All, Rises}
 use Rattle.field.proofs.Sheet.{Step, bind-got, passed, pure-got}
 
 -- ---- one number

@@ -9,7 +9,8 @@ use native.Mathlib.Omega.{arith}
 use borrow.Author.Tests.{eqb-true}
 use lib.Dec.{eqb}
 use lib.ListN.{length}
-use Rattle.number.proofs.Choice.{pick-true, pick-false, either}
+use Rattle.basics.proofs.Choice.{pick-true, pick-false}
+use Rattle.basics.proofs.Tests.{by-cases}
 use Rattle.field.specs.Sheet.{Out, got, refused, Parser, andThen, _>>=_, _>>_, pure}
 use Rattle.field.specs.Field.{end, whole}
 use Rattle.field.proofs.Sheet.{next, stops, Step, bind-got, after-got, pure-got}
@@ -35,7 +36,7 @@ module _ {A B : Type 0} (p : Parser A) (k : A → Parser B) (s : List ℕ) (at :
 end-got : (s : List ℕ) (at v e : ℕ) → end s at ≡ got v e → (at ≡ length s) × (e ≡ at)
 unfolding end
 end-got s at v e h =
-    either (eqb at (length s))
+    by-cases (eqb at (length s))
     (λ t. let g : got 0 at ≡ got v e = sym (pick-true _ _ t) ∙ h in (eqb-true _ _ t, cc))
     (λ f. let g : refused 9 ≡ got v e = sym (pick-false _ _ f) ∙ h in absurd (let z : _≡_ {A = ℕ} 0 1 = cc in omega arith))
 

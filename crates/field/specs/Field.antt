@@ -12,9 +12,8 @@ use Prim.Native.Nat.{ℕ, zero, suc, _+_}
 use mathlib.Core.List.{List, [], _∷_}
 use lib.ListN.{length, drop}
 use lib.Dec.{eqb, leb, ltb}
-use Rattle.number.specs.Choice.{pick}
-use Rattle.number.specs.Decode.{Decoded, value, decode}
-use Rattle.number.specs.Decode.{refused as bad}
+use Rattle.basics.specs.Choice.{pick}
+use Rattle.number.specs.Decode.{Decoded, value, decode, refused as bad}
 use Rattle.field.specs.Sheet.{Out, got, refused, Parser, _>>=_, _>>_, pure, require}
 
 -- what was decoded at a place

@@ -5,7 +5,7 @@ use mathlib.Core.Path.{_≡_}
 use mathlib.Core.List.{List, [], _∷_, _++_}
 use lib.ListN.{length, take, drop}
 use lib.Dec.{leb}
-use Rattle.number.specs.Choice.{pick}
+use Rattle.basics.specs.Choice.{pick}
 use Rattle.number.specs.Encode.{encode, widthOf}
 
 -- the bytes of a list, value by value

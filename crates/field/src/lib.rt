@@ -4,7 +4,7 @@ ghost use mathlib.Core.Path.{_≡_};
 ghost use Prim.Native.Nat.{_≤_};
 ghost use lib.ListN.{length};
 ghost use Rattle.field.specs.Field.{number, exactly, tenancy, inside, rising, opening, end};
-ghost use Rattle.field.specs.Put.{openingBytes, Put, Written as Wrote};
+ghost use Rattle.field.specs.Put.{openingBytes, PutOne, Laid};
 ghost use Rattle.field.specs.Refusal.{numberOf};
 ghost use Rattle.field.specs.Told.{told};
 
@@ -183,7 +183,7 @@ pub fn finish(s: &[u8], at: usize) -> Field
 
 // Puts a field at a place and answers the place after it; where it has no room, answers the same place and changes nothing.
 pub fn put(v: u32, out: &mut [u8], at: usize) -> usize
-    ensures { λ r. ⌜ Put v (now (out .entry)) at r (now (out .exit)) ⌝ }
+    ensures { λ r. ⌜ PutOne v (now (out .entry)) at r (now (out .exit)) ⌝ }
 {
     if out.len() < at {
         return at;
@@ -194,7 +194,7 @@ pub fn put(v: u32, out: &mut [u8], at: usize) -> usize
 // Puts kind, unit and tenancy at the start of a buffer that has room for them, and answers the place after them.
 pub fn put_opening(kind: u32, unit: u32, tenancy: u32, out: &mut [u8]) -> usize
     requires { ⌜ length (openingBytes kind unit tenancy) ≤ length (now out) ⌝ }
-    ensures { λ r. ⌜ Wrote (now (out .entry)) 0 (openingBytes kind unit tenancy) (now (out .exit)) r ⌝ }
+    ensures { λ r. ⌜ Laid (now (out .entry)) 0 (openingBytes kind unit tenancy) (now (out .exit)) r ⌝ }
 {
     let a = put(kind, out, 0);
     let b = put(unit, out, a);

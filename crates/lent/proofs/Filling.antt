@@ -9,8 +9,8 @@ use lib.ListN.{length, take, set, getD, length-append}
 use lib.Seq.{length-take-le}
 use Rattle.field.specs.Put.{spellAll}
 use Rattle.field.proofs.Spell.{spell-more}
-use Rattle.plan.specs.Receive.{over}
-use Rattle.plan.proofs.Over.{over-none, over-length, over-more}
+use Rattle.basics.specs.Buffer.{over}
+use Rattle.basics.proofs.Buffer.{over-none, over-length, over-more}
 use Rattle.lent.specs.Numbers.{bytesOf, numberAt, firstNumbers, numbers}
 use Rattle.lent.proofs.Numbers.{first-length, first-more, spell-length}
 

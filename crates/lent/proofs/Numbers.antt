@@ -15,7 +15,7 @@ use lib.Seq.{drop-cons, drop-drop, take-add, length-take-le, take-at, drop-at}
 use Rattle.number.specs.Bytes.{Bytes}
 use Rattle.number.proofs.Part.{drop-bytes}
 use Rattle.field.specs.Put.{spellAll}
-use Rattle.field.specs.Lists.{All}
+use Rattle.basics.specs.Lists.{All}
 use Rattle.lent.specs.Numbers.{valueOf, bytesOf, numberAt, firstNumbers, numbers, broken}
 
 -- ---- one number

@@ -4,8 +4,8 @@ use mathlib.Core.List.{List}
 use Prim.Native.Nat.{ℕ, _/_, _≤_}
 use native.Mathlib.Omega.{arith}
 use lib.ListN.{length, take}
-use Rattle.plan.specs.Receive.{over}
-use Rattle.plan.proofs.Over.{over-within, over-front}
+use Rattle.basics.specs.Buffer.{over}
+use Rattle.basics.proofs.Buffer.{over-within, over-front}
 use Rattle.lent.specs.Numbers.{numbers}
 use Rattle.lent.proofs.Numbers.{numbers-length}
 

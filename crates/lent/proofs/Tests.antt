@@ -8,7 +8,7 @@ use native.Mathlib.Omega.{arith}
 use borrow.Author.Tests.{leb-true, leb-false, lt-ltb, le-ltb}
 use lib.ListN.{length}
 use lib.Dec.{leb}
-use Rattle.number.proofs.Choice.{either}
+use Rattle.basics.proofs.Tests.{by-cases}
 use Rattle.lent.specs.Numbers.{numbers, broken, usable}
 use Rattle.lent.proofs.Numbers.{numbers-length}
 
@@ -16,7 +16,7 @@ module _ (w most : ℕ) (s : List ℕ) where
   pub is-usable : usable w most s ≡ true → (broken w s ≡ false) × (length s / w ≤ most)
   unfolding usable
   is-usable h =
-      either (broken w s)
+      by-cases (broken w s)
       (λ t. let z : false ≡ true = ap (λ (b : Bool). not b && leb (length s / w) most) (sym t) ∙ h in
       absurd (let o : _≡_ {A = ℕ} 0 1 = cc in omega arith))
       (λ f. (f, leb-true _ _ (ap (λ (b : Bool). not b && leb (length s / w) most) (sym f) ∙ h)))
@@ -24,7 +24,7 @@ module _ (w most : ℕ) (s : List ℕ) where
   pub not-usable : usable w most s ≡ false → (broken w s ≡ true) ⊎ (most < length (numbers w s))
   unfolding usable
   not-usable h =
-      either (broken w s)
+      by-cases (broken w s)
       (λ t. inl t)
       (λ f. inr (omega (
         arith,

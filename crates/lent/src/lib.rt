@@ -9,7 +9,7 @@ ghost use lib.ListN.{length, take, replicate};
 ghost use Rattle.basics.specs.Limits.{disksMost, blocksMost};
 ghost use Rattle.field.specs.Put.{spellAll};
 ghost use Rattle.field.specs.Send.{toldWritten};
-ghost use Rattle.plan.specs.Receive.{over};
+ghost use Rattle.basics.specs.Buffer.{over};
 ghost use Rattle.plan.specs.Told.{toldPlan};
 ghost use Rattle.lent.specs.Numbers.{numberAt, bytesOf, numbers, usable, Room};
 ghost use Rattle.lent.specs.Packed.{writerAnswer, readerAnswer, Fits32, FitsBits};

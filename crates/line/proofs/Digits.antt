@@ -7,8 +7,8 @@ use native.Mathlib.Nat.{pow-suc}
 use borrow.Author.Tests.{lt-ltb, le-ltb}
 use lib.Dec.{ltb}
 use lib.ListN.{length, length-append}
-use Rattle.number.specs.Choice.{pick}
-use Rattle.number.proofs.Choice.{pick-true, pick-false, pick-elim}
+use Rattle.basics.specs.Choice.{pick}
+use Rattle.basics.proofs.Choice.{pick-true, pick-false, pick-elim}
 use Rattle.line.specs.Text.{digit, digitsBy, decimal, spaced, pair}
 
 pub digit-low : (d : ℕ) → d < 10 → digit d ≡ 48 + d

@@ -7,7 +7,8 @@ use native.Mathlib.Omega.{arith}
 use borrow.Author.Tests.{le-leb, lt-leb}
 use lib.Dec.{leb}
 use lib.ListN.{length, length-append}
-use Rattle.number.proofs.Choice.{pick-true, pick-false, paired, first-false, second-false}
+use Rattle.basics.proofs.Choice.{pick-true, pick-false}
+use Rattle.basics.proofs.Tests.{and-both, first-false, second-false}
 use Rattle.field.specs.Put.{spellAll}
 use Rattle.field.proofs.Spell.{spell-bound}
 use Rattle.plan.specs.Plan.{Plan}
@@ -75,7 +76,7 @@ module _ (unit t : ℕ) (p : Plan) (out : List ℕ) where
     unfolding planLine counted planText head lists
     chosen =
         append-assoc word-plan (spellAll spaced (unit ∷ t ∷ length (p .disks) ∷ p .time ∷ [])) (bar ++ (spellAll spaced (p .disks) ++ (bar ++ (spellAll spaced (p .short) ++ feed))))
-        ∙ sym (pick-true (planText unit t p) [] (paired (le-leb _ _ k) (le-leb _ _ l)))
+        ∙ sym (pick-true (planText unit t p) [] (and-both _ _ (le-leb _ _ k) (le-leb _ _ l)))
 
     pub plan-printed : {mid after : List ℕ} {at n : ℕ} → length out ≡ 24576
         → Adds (word-plan ++ spellAll spaced (unit ∷ t ∷ length (p .disks) ∷ p .time ∷ [])) out 0 mid at

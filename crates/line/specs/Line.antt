@@ -6,7 +6,7 @@ use Prim.Native.Nat.{ℕ}
 use mathlib.Core.List.{List, [], _∷_, _++_}
 use lib.ListN.{length}
 use lib.Dec.{leb}
-use Rattle.number.specs.Choice.{pick}
+use Rattle.basics.specs.Choice.{pick}
 use Rattle.field.specs.Put.{spellAll}
 use Rattle.plan.specs.Plan.{Plan}
 use Rattle.plan.specs.Draft.{counted}

@@ -5,7 +5,7 @@
 use Prim.Native.Nat.{ℕ, zero, suc, _+_, _/_, _%_}
 use mathlib.Core.List.{List, [], _∷_, _++_}
 use lib.Dec.{ltb}
-use Rattle.number.specs.Choice.{pick}
+use Rattle.basics.specs.Choice.{pick}
 use Rattle.field.specs.Put.{spellAll}
 
 -- 0 to 9, then a to f

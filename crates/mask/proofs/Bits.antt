@@ -14,7 +14,8 @@ use borrow.Author.Tests.{ne-eqb, lt-ltb}
 use lib.Pow.{pow-pos, pow-lt, shl-exact}
 use lib.Bits.{bitAnd, bitOr, and-shr, or-shr, and-mod, or-mod, and-mask}
 use Rattle.mask.specs.Has.{has}
-use Rattle.mask.proofs.Has.{has-first, has-half, has-zero, has-above, lt-or-le}
+use Rattle.mask.proofs.Has.{has-first, has-half, has-zero, has-above}
+use Rattle.basics.proofs.Tests.{lt-or-le}
 
 -- ---- and, or
 

@@ -13,7 +13,8 @@ use lib.Dec.{eqb, ltb}
 use Rattle.mask.specs.Has.{has}
 use Rattle.mask.specs.Member.{Added, Single, Below}
 use Rattle.mask.specs.Lowest.{Lowest}
-use Rattle.mask.proofs.Has.{has-ext, lt-or-le}
+use Rattle.mask.proofs.Has.{has-ext}
+use Rattle.basics.proofs.Tests.{lt-or-le}
 
 -- a value that is told
 pub told-unique : {A : Type 0} {v r r′ : A} → r ≡ v → r′ ≡ v → r ≡ r′

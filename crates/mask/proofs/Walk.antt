@@ -13,7 +13,8 @@ use lib.Pow.{pow-mono, shr-shr, split}
 use lib.Bits.{bitAnd, and-mask}
 use Rattle.mask.specs.Has.{has}
 use Rattle.mask.specs.Lowest.{Lowest}
-use Rattle.mask.proofs.Has.{has-zero, has-shift, lt-or-le, mask-zero}
+use Rattle.mask.proofs.Has.{has-zero, has-shift, mask-zero}
+use Rattle.basics.proofs.Tests.{lt-or-le}
 use Rattle.mask.proofs.Bits.{has-and, has-ones, has-shr}
 
 -- the walk has come to place d: rest is what stands from there on, it is not 0, and no disk stands under d

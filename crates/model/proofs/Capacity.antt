@@ -14,10 +14,11 @@ use native.Mathlib.Omega.{arith}
 use lib.Dec.{ltb}
 use borrow.Author.Tests.{ltb-true, ltb-false, lt-ltb, le-ltb}
 use Rattle.model.specs.Assignment.{reads, Within}
-use Rattle.model.specs.Capacity.{endTime, pick, capacity}
+use Rattle.model.specs.Capacity.{endTime, capacity}
+use Rattle.basics.specs.Choice.{pick}
 use Rattle.model.specs.Case.{Case, Priced, endOf, response, capacityAt}
-use Rattle.model.proofs.Bool.{by-cases}
-use Rattle.model.proofs.Sum.{latest-term, latest-le}
+use Rattle.basics.proofs.Tests.{by-cases}
+use Rattle.basics.proofs.Count.{latest-term, latest-le}
 
 pub capacity-before : (s c t : ℕ) → t < s → capacity s c t ≡ 0
 unfolding capacity pick

@@ -11,13 +11,13 @@ use mathlib.Core.Bool.{Bool, true, _&&_}
 use native.Mathlib.Omega.{arith}
 use lib.Dec.{leb, eqb}
 use borrow.Author.Tests.{leb-true, le-leb, eqb-true, eq-eqb}
-use Rattle.model.specs.Count.{gate, sum}
+use Rattle.basics.specs.Count.{gate, sum}
 use Rattle.model.specs.Assignment.{reads, Partial, Within}
 use Rattle.model.specs.Shortfall.{touches, size, room, Sub, Short, NoShorter, Greatest, ShortSet}
 use Rattle.model.specs.Closed.{Closed}
 use Rattle.model.specs.Order.{Agree}
-use Rattle.model.proofs.Bool.{by-cases, and-left, and-right, and-both, same-test, gate-true, gate-false}
-use Rattle.model.proofs.Sum.{sum-ext, sum-le, sum-tight, count-ext, count-tight, count-here}
+use Rattle.basics.proofs.Tests.{by-cases, and-left, and-right, and-both, same-test}
+use Rattle.basics.proofs.Count.{gate-true, gate-false, sum-ext, sum-le, sum-tight, count-ext, count-tight, count-here}
 use Rattle.model.proofs.Duality.{share, left, unplaced, split, share-le, left-le, share-room, untouched, weak}
 
 -- where all that a disk reads is in S, the share of S is all of it

@@ -13,11 +13,11 @@ use native.Mathlib.Nat.{le-antisymm}
 use native.Mathlib.Omega.{arith}
 use lib.Dec.{leb, eqb}
 use borrow.Author.Tests.{leb-true, leb-false, le-leb, lt-leb, eqb-true, eqb-false, ne-eqb}
-use Rattle.model.specs.Count.{bit, gate, sum, count}
+use Rattle.basics.specs.Count.{bit, gate, sum, count}
 use Rattle.model.specs.Assignment.{reads, Partial, Valid, Within}
 use Rattle.model.specs.Shortfall.{touches, size, room, Short}
-use Rattle.model.proofs.Bool.{by-cases, differ, and-left, and-right, and-both, not-here, bit-true, bit-false, gate-true, gate-mono}
-use Rattle.model.proofs.Sum.{sum-ext, sum-le, sum-zero, sum-add, sum-swap, count-le, count-none, count-here, any-here, any-mono}
+use Rattle.basics.proofs.Tests.{by-cases, differ, and-left, and-right, and-both, not-here}
+use Rattle.basics.proofs.Count.{bit-true, bit-false, gate-true, gate-mono, sum-ext, sum-le, sum-zero, sum-add, sum-swap, count-le, count-none, count-here, any-here, any-mono}
 
 -- how many blocks of S the assignment reads from disk d
 unfoldable pub share : ℕ → (ℕ → ℕ) → (ℕ → Bool) → ℕ → ℕ

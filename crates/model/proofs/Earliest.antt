@@ -11,16 +11,15 @@ use native.Mathlib.Nat.{le-refl}
 use native.Mathlib.Omega.{arith}
 use lib.Dec.{leb, eqb}
 use borrow.Author.Tests.{leb-true, le-leb, eq-eqb}
-use Rattle.model.specs.Count.{gate, sum}
+use Rattle.basics.specs.Count.{gate, sum}
 use Rattle.model.specs.Assignment.{reads, Valid}
 use Rattle.model.specs.Capacity.{endTime}
 use Rattle.model.specs.Case.{Case, Priced, Held, Schedule, endOf, response, capacityAt}
 use Rattle.model.specs.Shortfall.{touches, size, room}
 use Rattle.model.specs.Time.{members, roomAt, Earliest}
-use Rattle.model.proofs.Bool.{by-cases, differ, and-both, gate-true}
-use Rattle.model.proofs.Sum.{sum-term, count-here, count-some, any-here, latest-term}
+use Rattle.basics.proofs.Tests.{by-cases, differ, and-both, below-or}
+use Rattle.basics.proofs.Count.{gate-true, sum-term, count-here, count-some, any-here, latest-term}
 use Rattle.model.proofs.Capacity.{ends-fits}
-use Rattle.model.proofs.Time.{below-or}
 
 -- none below t passes, or there is a first below t
 search-below : (p : ℕ → Bool) (t : ℕ)

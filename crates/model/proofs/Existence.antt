@@ -19,11 +19,10 @@ use Rattle.model.specs.Shortfall.{size, room, Short, NoShorter, Greatest
 use Rattle.model.specs.Order.{Agree, FirstOf, Lowest}
 use Rattle.model.specs.Time.{LeastTime, members, roomAt, ShortAt, GreatestEarliest}
 use Rattle.model.specs.Plan.{Optimal}
-use Rattle.model.proofs.Bool.{differ, and-left, and-right, and-both}
-use Rattle.model.proofs.Sum.{below-suc}
+use Rattle.basics.proofs.Tests.{differ, and-left, and-right, and-both, below-suc, below-or}
 use Rattle.model.proofs.Capacity.{response-within, within-response}
 use Rattle.model.proofs.Duality.{none-short}
-use Rattle.model.proofs.Time.{below-or, in-time, Certificate, certificate, certificate-greatest, certified-equal}
+use Rattle.model.proofs.Time.{in-time, Certificate, certificate, certificate-greatest, certified-equal}
 use Rattle.model.proofs.Order.{lowest-start, lowest-keep, lowest-more, lowest-first, first-same, first-has-time}
 use Rattle.model.proofs.Earliest.{first-number, time-positive}
 use Rattle.model.proofs.Plan.{plan-unique, no-blocks}

@@ -13,16 +13,18 @@ use native.Mathlib.Omega.{arith}
 use lib.Dec.{ltb, leb, eqb}
 use lib.ListN.{length, getD}
 use borrow.Author.Tests.{ltb-true, leb-true, eqb-true, not-true, lt-ltb, le-leb, eq-eqb}
-use Rattle.model.specs.Count.{bit, gate, sum, count, any, latest}
+use Rattle.basics.specs.Count.{bit, gate, sum, count, any, latest}
 use Rattle.model.specs.Assignment.{reads, Valid}
-use Rattle.model.specs.Capacity.{endTime, pick, capacity}
+use Rattle.model.specs.Capacity.{endTime, capacity}
+use Rattle.basics.specs.Choice.{pick}
 use Rattle.model.specs.Case.{Case, base, Schedule, endOf, response, HasTime, capacityAt}
 use Rattle.model.specs.Shortfall.{touches, size, room, Sub, NoShorter, Greatest}
 use Rattle.model.specs.Order.{Agree, Before}
 use Rattle.model.specs.Plan.{Optimal}
-use Rattle.model.specs.Figures.{Figure, request, capacities, isOn, asked, Holds, AllHold, table}
-use Rattle.model.proofs.Bool.{differ, and-left, and-right, and-both}
-use Rattle.model.proofs.Sum.{below-suc, any-here, any-ext, count-ext, latest-ext}
+use Rattle.model.specs.Figures.{Figure, request, capacities, asked, Holds, AllHold, table}
+use Rattle.basics.specs.Lists.{listed}
+use Rattle.basics.proofs.Tests.{differ, and-left, and-right, and-both, below-suc}
+use Rattle.basics.proofs.Count.{any-here, any-ext, count-ext, latest-ext}
 use Rattle.model.proofs.Duality.{room-ext}
 use Rattle.model.proofs.Move.{reads-ext}
 use Rattle.model.proofs.Subsets.{put, put-here, put-below, put-more, FirstOnly, put-first}
@@ -289,20 +291,20 @@ same-law (x ∷ k) (y ∷ l) e =
 
 right : Figure → Bool
 right (request copies R disks short) =
-    planned (asked copies) R (λ b. getD disks b 0) (isOn short)
-    && (eqb (length disks) (length copies) && eqb (length short) (size (length copies) (isOn short)))
+    planned (asked copies) R (λ b. getD disks b 0) (listed short)
+    && (eqb (length disks) (length copies) && eqb (length short) (size (length copies) (listed short)))
 right (capacities d times values) = same (map (λ t. capacityAt (asked []) t d) times) values
 
 right-law : (f : Figure) → right f ≡ true → Holds f
 unfolding right Holds
 right-law (request copies R disks short) e =
-    let p : Bool = planned (asked copies) R (λ b. getD disks b 0) (isOn short) in
+    let p : Bool = planned (asked copies) R (λ b. getD disks b 0) (listed short) in
     let l : Bool = eqb (length disks) (length copies) in
-    let k : Bool = eqb (length short) (size (length copies) (isOn short)) in
+    let k : Bool = eqb (length short) (size (length copies) (listed short)) in
     record {
-      plan = planned-law (asked copies) R (λ b. getD disks b 0) (isOn short) (and-left p (l && k) e);
+      plan = planned-law (asked copies) R (λ b. getD disks b 0) (listed short) (and-left p (l && k) e);
       every-block = eqb-true (length disks) (length copies) (and-left l k (and-right p (l && k) e));
-      no-other = eqb-true (length short) (size (length copies) (isOn short)) (and-right l k (and-right p (l && k) e));
+      no-other = eqb-true (length short) (size (length copies) (listed short)) (and-right l k (and-right p (l && k) e));
     }
 right-law (capacities d times values) e = same-law (map (λ t. capacityAt (asked []) t d) times) values e
 
@@ -318,5 +320,5 @@ figures-law (f ∷ fs) e = (right-law f (and-left (right f) (all-right fs) e), f
 pub figures : AllHold table
 unfolding
     table all-right right planned schedule? schedules? sets? slower? wider? room? before? all imp each every upto same put
-    isOn asked base capacityAt capacity pick endTime response endOf reads size room touches bit gate sum count any latest
+    listed asked base capacityAt capacity pick endTime response endOf reads size room touches bit gate sum count any latest
 figures = figures-law table refl

@@ -9,14 +9,13 @@ use mathlib.Core.Bool.{Bool, true, false, _&&_, _||_, or-false}
 use native.Mathlib.Omega.{arith}
 use lib.Dec.{ltb, eqb}
 use borrow.Author.Tests.{ltb-true, ltb-false, eqb-true, eqb-false}
-use Rattle.model.specs.Count.{bit, gate, sum, count, any}
+use Rattle.basics.specs.Count.{bit, gate, sum, count, any}
 use Rattle.model.specs.Assignment.{reads, Valid, Within}
 use Rattle.model.specs.Shortfall.{touches, size, room, Short}
 use Rattle.model.specs.Order.{Agree}
-use Rattle.model.proofs.Bool.{by-cases, differ, or-elim, or-left, or-right, not-here, bit-true, bit-false, gate-false, gate-le, gate-mono}
-use Rattle.model.proofs.Sum.{below-suc, sum-ext, sum-le, sum-zero, sum-point, count-ext, any-ext, any-some}
+use Rattle.basics.proofs.Tests.{by-cases, differ, or-elim, or-left, or-right, not-here, below-suc, below-or}
+use Rattle.basics.proofs.Count.{bit-true, bit-false, gate-false, gate-le, gate-mono, sum-ext, sum-le, sum-zero, sum-point, count-ext, any-ext, any-some}
 use Rattle.model.proofs.Duality.{room-ext, touches-mono}
-use Rattle.model.proofs.Time.{below-or}
 use Rattle.model.proofs.Subsets.{put, put-here, put-other, put-below, FirstOnly, find}
 use Rattle.model.proofs.Short.{union, meet, union-size, submodular}
 

@@ -14,11 +14,11 @@ use lib.Dec.{eqb}
 use lib.ListN.{length, getD, set}
 use lib.Seq.{getD-set-same, getD-set-other}
 use borrow.Author.Tests.{eqb-true, eqb-false, eq-eqb, ne-eqb}
-use Rattle.model.specs.Count.{bit, count}
+use Rattle.basics.specs.Count.{bit, count}
 use Rattle.model.specs.Assignment.{reads}
 use Rattle.model.specs.Shortfall.{size}
-use Rattle.model.proofs.Bool.{by-cases, bit-true, bit-false}
-use Rattle.model.proofs.Sum.{count-point, count-ext}
+use Rattle.basics.proofs.Tests.{by-cases}
+use Rattle.basics.proofs.Count.{bit-true, bit-false, count-point, count-ext}
 
 -- a and a′ are the same but for block b
 unfoldable pub But : {A : Type 0} → ℕ → ℕ → (ℕ → A) → (ℕ → A) → Type 0

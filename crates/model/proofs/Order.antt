@@ -13,8 +13,7 @@ use native.Mathlib.Omega.{arith}
 use Rattle.model.specs.Case.{Case, InTime, HasTime}
 use Rattle.model.specs.Time.{LeastTime}
 use Rattle.model.specs.Order.{Agree, Before, FirstOf, Lowest}
-use Rattle.model.proofs.Sum.{below-suc}
-use Rattle.model.proofs.Time.{below-or}
+use Rattle.basics.proofs.Tests.{below-suc, below-or}
 
 pub agree-self : {A : Type 0} (k : ℕ) (a : ℕ → A) → Agree k a a
 unfolding Agree

@@ -16,7 +16,7 @@ use Rattle.model.specs.Shortfall.{size, Sub, NoShorter, Greatest, ShortS
 use Rattle.model.specs.Order.{Agree, Before, FirstOf}
 use Rattle.model.specs.Time.{members}
 use Rattle.model.specs.Plan.{Optimal}
-use Rattle.model.proofs.Sum.{latest-le, count-most}
+use Rattle.basics.proofs.Count.{latest-le, count-most}
 use Rattle.model.proofs.Capacity.{endTime-idle}
 use Rattle.model.proofs.Duality.{room-mono}
 use Rattle.model.proofs.Time.{time-unique}

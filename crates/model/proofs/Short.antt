@@ -11,11 +11,11 @@ use mathlib.Core.Logic.{⊎-elim}
 use native.Mathlib.Omega.{arith}
 use lib.Dec.{leb}
 use borrow.Author.Tests.{leb-true, le-leb}
-use Rattle.model.specs.Count.{bit, gate, count, any}
+use Rattle.basics.specs.Count.{bit, gate, count, any}
 use Rattle.model.specs.Shortfall.{touches, size, room, Sub, NoShorter, Greatest, ShortSet}
 use Rattle.model.specs.Order.{Agree}
-use Rattle.model.proofs.Bool.{by-cases, differ, and-left, and-right, and-both, or-elim, not-here, gate-true, gate-false, gate-le}
-use Rattle.model.proofs.Sum.{sum-ext, sum-le, sum-add, count-ext, count-most, count-tight, any-some, any-here}
+use Rattle.basics.proofs.Tests.{by-cases, differ, and-left, and-right, and-both, or-elim, not-here}
+use Rattle.basics.proofs.Count.{gate-true, gate-false, gate-le, sum-ext, sum-le, sum-add, count-ext, count-most, count-tight, any-some, any-here}
 use Rattle.model.proofs.Duality.{room-mono, room-ext, touches-mono}
 use Rattle.model.proofs.Closed.{short-unique}
 use Rattle.model.proofs.Subsets.{FirstOnly, most}

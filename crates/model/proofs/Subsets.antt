@@ -10,11 +10,10 @@ use mathlib.Core.Bool.{Bool, true, false, cond}
 use native.Mathlib.Omega.{arith}
 use lib.Dec.{eqb}
 use borrow.Author.Tests.{eq-eqb, ne-eqb}
-use Rattle.model.specs.Count.{bit}
+use Rattle.basics.specs.Count.{bit}
 use Rattle.model.specs.Order.{Agree}
-use Rattle.model.proofs.Bool.{by-cases, not-here, bit-true, bit-false}
-use Rattle.model.proofs.Sum.{below-suc}
-use Rattle.model.proofs.Time.{below-or}
+use Rattle.basics.proofs.Tests.{by-cases, not-here, below-suc, below-or}
+use Rattle.basics.proofs.Count.{bit-true, bit-false}
 
 -- f with the value x at k
 unfoldable pub put : {A : Type 0} → ℕ → A → (ℕ → A) → ℕ → A

@@ -13,8 +13,9 @@ use mathlib.Core.Logic.{_⊎_, inl, inr, ⊎-elim}
 use mathlib.Core.Bool.{Bool, true, false}
 use native.Mathlib.Decide.{decLe}
 use native.Mathlib.Omega.{arith}
-use Rattle.model.specs.Count.{bit, sum, count, any, latest}
-use Rattle.model.proofs.Bool.{by-cases, differ, or-elim, or-left, or-right, not-here, bit-true, bit-false, bit-le, bit-mono, bit-is, same-test}
+use Rattle.basics.specs.Count.{bit, sum, count, any, latest}
+use Rattle.basics.proofs.Tests.{by-cases, differ, or-elim, or-left, or-right, not-here, same-test}
+use Rattle.basics.proofs.Count.{bit-true, bit-false, bit-le, bit-mono, bit-is}
 
 -- a number below k + 1 is below k, or is k
 pub below-suc : (k i : ℕ) → i < suc k → (i < k) ⊎ (i ≡ k)

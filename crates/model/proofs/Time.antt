@@ -16,7 +16,7 @@ use borrow.Author.Tests.{ltb-true, ltb-false}
 use Rattle.model.specs.Case.{Case, Priced, Schedule, response, capacityAt}
 use Rattle.model.specs.Shortfall.{Short}
 use Rattle.model.specs.Time.{LeastTime, members, roomAt, ShortAt, Earliest, GreatestEarliest}
-use Rattle.model.proofs.Bool.{by-cases}
+use Rattle.basics.proofs.Tests.{by-cases}
 use Rattle.model.proofs.Capacity.{response-within, capacityAt-grows}
 use Rattle.model.proofs.Duality.{weak-duality, room-grows}
 

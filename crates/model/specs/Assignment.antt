@@ -4,7 +4,7 @@ use Prim.Native.Nat.{ℕ, _≤_, _<_}
 use mathlib.Core.Path.{_≡_}
 use mathlib.Core.Bool.{Bool, true}
 use lib.Dec.{eqb}
-use Rattle.model.specs.Count.{count}
+use Rattle.basics.specs.Count.{count}
 
 -- how many of the q blocks the assignment a reads from disk d
 unfoldable pub reads : ℕ → (ℕ → ℕ) → ℕ → ℕ

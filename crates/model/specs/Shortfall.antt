@@ -8,7 +8,7 @@
 use Prim.Native.Nat.{ℕ, _+_, _≤_, _<_}
 use mathlib.Core.Path.{_≡_}
 use mathlib.Core.Bool.{Bool, true, _&&_}
-use Rattle.model.specs.Count.{sum, count, any, gate}
+use Rattle.basics.specs.Count.{sum, count, any, gate}
 
 -- whether disk d holds a copy of any block of the set S
 unfoldable pub touches : ℕ → (ℕ → ℕ → Bool) → (ℕ → Bool) → ℕ → Bool

@@ -1,7 +1,7 @@
 -- Laws of a choice by a test, and of two tests joined.
 use mathlib.Core.Path.{_≡_, refl}
 use mathlib.Core.Bool.{Bool, true, false, _&&_}
-use Rattle.number.specs.Choice.{pick}
+use Rattle.basics.specs.Choice.{pick}
 
 module _ {A : Type 0} where
   -- the first where the test holds

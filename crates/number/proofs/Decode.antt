@@ -8,10 +8,10 @@ use borrow.Author.Tests.{eq-eqb, ne-eqb, lt-ltb, le-ltb, ltb-true}
 use lib.ListN.{length, take, drop, getD}
 use lib.Dec.{ltb, eqb, lit<}
 use native.Mathlib.Nat.{pow-suc, one-le-pow, pow-le-pow-right}
-use Rattle.number.specs.Choice.{pick}
+use Rattle.basics.specs.Choice.{pick}
 use Rattle.number.specs.Decode.{Decoded, value, refused, under, more, decode}
-use Rattle.number.proofs.Choice.{pick-true, pick-false, pick-elim}
-use Rattle.number.proofs.Part.{rest}
+use Rattle.basics.proofs.Choice.{pick-true, pick-false, pick-elim}
+use Rattle.basics.proofs.Buffer.{rest}
 
 -- ---- decode, by its first byte
 

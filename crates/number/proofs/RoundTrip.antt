@@ -13,7 +13,8 @@ use lib.Dec.{ltb, lit<}
 use Rattle.number.specs.Bytes.{Bytes}
 use Rattle.number.specs.Decode.{Decoded, value, refused, under, more, decode}
 use Rattle.number.specs.Encode.{encodeBy, encode, widthOf}
-use Rattle.number.proofs.Choice.{pick-true, pick-false, pick-elim, either}
+use Rattle.basics.proofs.Choice.{pick-true, pick-false, pick-elim}
+use Rattle.basics.proofs.Tests.{by-cases}
 use Rattle.number.proofs.Part.{drop-bytes}
 
 -- ---- reading what was written
@@ -27,7 +28,7 @@ more-encode : (k v : ℕ) (r : List ℕ) → 0 < v → v < 16 * 128 ^ k → more
 unfolding more encodeBy
 more-encode zero v r p h = pick-false _ _ (ne-eqb v 0 (λ z. omega arith)) ∙ pick-true _ _ (lt-ltb v 16 (omega arith))
 more-encode (suc k) v r p h =
-    either (ltb v 128)
+    by-cases (ltb v 128)
     (λ t.
     let e : encodeBy (suc k) v ≡ v ∷ [] = pick-true _ _ t in
     rw e (pick-false _ _ (ne-eqb v 0 (λ z. omega arith)) ∙ pick-true _ _ t))
@@ -42,7 +43,7 @@ more-encode (suc k) v r p h =
 pub decode-encode : (v : ℕ) (r : List ℕ) → v < 2 ^ 32 → decode (encode v ++ r) ≡ value v (widthOf v)
 unfolding decode encode widthOf encodeBy
 decode-encode v r h =
-    either (ltb v 128)
+    by-cases (ltb v 128)
     (λ t.
     let e : encodeBy 4 v ≡ v ∷ [] = pick-true _ _ t in
     rw e (pick-true _ _ t))

@@ -6,7 +6,7 @@ use native.Mathlib.Omega.{arith}
 use Rattle.number.specs.declared.Number.{Number}
 use Rattle.number.specs.declared.Number.the-variants.{Value, Ends, Malformed}
 use Rattle.number.specs.Decode.{Decoded, value, refused, decode}
-use Rattle.number.specs.Encode.{widthOf, Wrote}
+use Rattle.number.specs.Encode.{widthOf, WroteNumber}
 use Rattle.number.specs.Told.{told}
 
 -- two answers that say the same are the same
@@ -31,5 +31,5 @@ pub width-unique : (v a b : ℕ) → a ≡ widthOf v → b ≡ widthOf v → a �
 width-unique v a b p q = p ∙ sym q
 
 -- `write`: the count and the buffer
-pub write-unique : (v : ℕ) (out : List ℕ) (n m : ℕ) (x y : List ℕ) → Wrote v out n x → Wrote v out m y → (n ≡ m) × (x ≡ y)
+pub write-unique : (v : ℕ) (out : List ℕ) (n m : ℕ) (x y : List ℕ) → WroteNumber v out n x → WroteNumber v out m y → (n ≡ m) × (x ≡ y)
 write-unique v out n m x y p q = (p .count ∙ sym (q .count), p .left ∙ sym (q .left))

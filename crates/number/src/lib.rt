@@ -3,7 +3,7 @@ ghost use mathlib.Core.Path.{_≡_};
 ghost use Prim.Native.Nat.{_≤_};
 ghost use lib.ListN.{length};
 ghost use Rattle.number.specs.Decode.{decode, more};
-ghost use Rattle.number.specs.Encode.{widthOf, Wrote};
+ghost use Rattle.number.specs.Encode.{widthOf, WroteNumber};
 ghost use Rattle.number.specs.Told.{told};
 
 // What stands at the start of a list of bytes.
@@ -71,7 +71,7 @@ pub fn width(v: u32) -> usize
 
 // Writes the shortest form at the start of a slice and answers its width; where it has no room, answers 0 and changes nothing.
 pub fn write(v: u32, out: &mut [u8]) -> usize
-    ensures { λ r. ⌜ Wrote v (now (out .entry)) r (now (out .exit)) ⌝ }
+    ensures { λ r. ⌜ WroteNumber v (now (out .entry)) r (now (out .exit)) ⌝ }
 {
     if out.len() == 0 {
         return 0;

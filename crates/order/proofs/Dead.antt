@@ -16,8 +16,8 @@ use Rattle.mask.specs.Has.{has}
 use Rattle.model.specs.Assignment.{reads, Valid, Within}
 use Rattle.model.specs.Shortfall.{touches}
 use Rattle.model.specs.Closed.{Closed}
-use Rattle.model.proofs.Bool.{by-cases, differ, and-left, and-both, or-elim, or-left, or-right}
-use Rattle.model.proofs.Sum.{count-some, any-here, any-some}
+use Rattle.basics.proofs.Tests.{by-cases, differ, and-left, and-both, or-elim, or-left, or-right}
+use Rattle.basics.proofs.Count.{count-some, any-here, any-some}
 use Rattle.model.proofs.Duality.{valid-partial}
 use Rattle.model.proofs.Closed.{closed-greatest, greatest-closed}
 use Rattle.places.specs.Places.{entry, holds}

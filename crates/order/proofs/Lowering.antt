@@ -13,7 +13,7 @@ use Rattle.mask.specs.Has.{has}
 use Rattle.mask.proofs.Has.{has-zero}
 use Rattle.model.specs.Assignment.{Valid}
 use Rattle.model.specs.Order.{Agree, Lowest}
-use Rattle.model.proofs.Bool.{by-cases, differ, and-left, and-right, and-both, or-left, or-right}
+use Rattle.basics.proofs.Tests.{by-cases, differ, and-left, and-right, and-both, or-left, or-right}
 use Rattle.model.proofs.Order.{lowest-start, lowest-first, lowest-keep, lowest-more}
 use Rattle.places.specs.Places.{entry, holds}
 use Rattle.places.specs.Search.{Inside}

@@ -9,7 +9,7 @@ use lib.ListN.{getD, set, length, length-set}
 use lib.Seq.{getD-set-same, getD-set-other}
 use borrow.Author.Tests.{eqb-true, eqb-false}
 use Rattle.mask.specs.Has.{has}
-use Rattle.model.proofs.Bool.{by-cases, differ}
+use Rattle.basics.proofs.Tests.{by-cases, differ}
 use Rattle.order.specs.Turn.{Spread}
 
 -- a fact of the numbers below b + 1 from those below b, and b

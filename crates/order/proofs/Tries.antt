@@ -11,7 +11,7 @@ use lib.Seq.{getD-set-same, getD-set-other, set-set, set-getD, ext-getD}
 use borrow.Author.Tests.{ltb-false, eqb-true, eqb-false}
 use Rattle.mask.specs.Has.{has}
 use Rattle.model.specs.Assignment.{Partial, Valid, Within}
-use Rattle.model.proofs.Bool.{by-cases, differ, not-here}
+use Rattle.basics.proofs.Tests.{by-cases, differ, not-here}
 use Rattle.places.specs.Places.{entry, holds, Placed, Movable, Moved}
 use Rattle.places.specs.Outcome.{Ready, More, Blocked}
 use Rattle.places.proofs.Laws.{movable, placed-move}

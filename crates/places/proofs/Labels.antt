@@ -10,8 +10,9 @@ use native.Mathlib.Omega.{arith}
 use lib.Dec.{eqb}
 use lib.ListN.{getD}
 use borrow.Author.Tests.{eqb-true, eqb-false, ne-eqb}
-use Rattle.model.specs.Count.{bit, gate}
-use Rattle.model.proofs.Bool.{by-cases, bit-true, bit-false, gate-true, gate-false}
+use Rattle.basics.specs.Count.{bit, gate}
+use Rattle.basics.proofs.Tests.{by-cases}
+use Rattle.basics.proofs.Count.{bit-true, bit-false, gate-true, gate-false}
 use Rattle.places.specs.Places.{holds, Placed, Movable, Moved}
 use Rattle.places.specs.Search.{rank, blockOf, Noted, Label, Way, Pulled}
 use Rattle.places.proofs.Laws.{movable, placed-move}

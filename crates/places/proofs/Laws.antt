@@ -13,8 +13,8 @@ use lib.ListN.{getD, set, length-set}
 use lib.Seq.{getD-set-same, getD-set-other}
 use borrow.Author.Tests.{eqb-true, eqb-false, eq-eqb}
 use Rattle.model.specs.Assignment.{reads, Partial}
-use Rattle.model.proofs.Bool.{by-cases}
-use Rattle.model.proofs.Sum.{count-most, count-here}
+use Rattle.basics.proofs.Tests.{by-cases}
+use Rattle.basics.proofs.Count.{count-most, count-here}
 use Rattle.model.proofs.Move.{But, reads-from, reads-to, reads-keep}
 use Rattle.places.specs.Places.{entry, holds, Placed, Movable, Moved}
 

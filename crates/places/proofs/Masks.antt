@@ -12,7 +12,7 @@ use Rattle.mask.specs.Count.{bit, members}
 use Rattle.mask.proofs.Has.{has-zero, has-place, has-ext, mask-some}
 use Rattle.mask.proofs.Bits.{has-ones}
 use Rattle.mask.proofs.Members.{members-le}
-use Rattle.model.proofs.Bool.{by-cases, differ, and-left, and-right, and-both, same-test}
+use Rattle.basics.proofs.Tests.{by-cases, differ, and-left, and-right, and-both, same-test}
 use Rattle.places.specs.Search.{Open, Inside, Linked, Brings}
 
 -- ---- a mask that is made disk by disk

@@ -10,7 +10,8 @@ use native.Mathlib.Omega.{arith}
 use lib.Dec.{eqb, ltb}
 use lib.ListN.{getD}
 use borrow.Author.Tests.{ltb-true, ltb-false, eqb-true, eqb-false}
-use Rattle.model.proofs.Bool.{by-cases, differ, gate-true, gate-false}
+use Rattle.basics.proofs.Tests.{by-cases, differ}
+use Rattle.basics.proofs.Count.{gate-true, gate-false}
 use Rattle.places.specs.Places.{holds}
 use Rattle.places.specs.Search.{firstOf, rank, Noted}
 

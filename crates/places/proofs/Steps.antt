@@ -14,8 +14,8 @@ use lib.Seq.{getD-set-same, getD-set-other}
 use borrow.Author.Tests.{ltb-true, ltb-false, lt-ltb, le-ltb, eqb-true, eqb-false, eq-eqb, ne-eqb}
 use Rattle.mask.specs.Has.{has}
 use Rattle.model.specs.Assignment.{reads, Partial, Within}
-use Rattle.model.proofs.Bool.{by-cases, differ, and-left, and-right, and-both, bit-true, bit-false}
-use Rattle.model.proofs.Sum.{count-none, count-all, count-some}
+use Rattle.basics.proofs.Tests.{by-cases, differ, and-left, and-right, and-both}
+use Rattle.basics.proofs.Count.{bit-true, bit-false, count-none, count-all, count-some}
 use Rattle.places.specs.Places.{entry, roomy, Placed, Moved, Empty}
 use Rattle.places.specs.Search.{Open, OpenBut, Stuck, Pulled}
 use Rattle.places.specs.Outcome.{Ready, More, Blocked, Filled}

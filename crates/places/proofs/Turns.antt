@@ -18,11 +18,11 @@ use Rattle.mask.specs.Count.{members}
 use Rattle.mask.specs.Lowest.{Lowest}
 use Rattle.mask.proofs.Has.{has-zero, has-lt}
 use Rattle.mask.proofs.Walk.{lowest-zero}
-use Rattle.model.specs.Count.{bit}
+use Rattle.basics.specs.Count.{bit}
 use Rattle.model.specs.Shortfall.{touches}
 use Rattle.model.specs.Closed.{Closed}
-use Rattle.model.proofs.Bool.{by-cases, differ, and-left, and-right, and-both, or-elim, or-left, or-right, not-here}
-use Rattle.model.proofs.Sum.{any-here}
+use Rattle.basics.proofs.Tests.{by-cases, differ, and-left, and-right, and-both, or-elim, or-left, or-right, not-here}
+use Rattle.basics.proofs.Count.{any-here}
 use Rattle.places.specs.Places.{entry, holds, Kept}
 use Rattle.places.specs.Search.{Linked, Settled, Scanned, rank, blockOf, Label, Tree, Way, Stuck}
 use Rattle.places.specs.Outcome.{Seeking}

@@ -15,7 +15,7 @@ use mathlib.Core.List.{List}
 use lib.ListN.{getD}
 use lib.Dec.{ltb, eqb}
 use Rattle.mask.specs.Has.{has}
-use Rattle.model.specs.Count.{bit, gate}
+use Rattle.basics.specs.Count.{bit, gate}
 use Rattle.model.specs.Shortfall.{touches}
 use Rattle.model.specs.Closed.{Closed}
 use Rattle.places.specs.Places.{entry, holds, roomy, Placed}

@@ -6,7 +6,7 @@
 use mathlib.Core.Path.{_≡_, refl, sym, ap, _∙_, subst}
 use mathlib.Core.List.{List}
 use Prim.Native.Nat.{ℕ, _-_, _≤_}
-use Rattle.number.proofs.Choice.{pick-elim}
+use Rattle.basics.proofs.Choice.{pick-elim}
 use Rattle.field.specs.Sheet.{Out, got, refused, Parser, andThen, _>>=_, _>>_, pure, times}
 use Rattle.field.specs.Field.{opening, inside, ascending, end, whole}
 use Rattle.field.specs.declared.Field.{Field}

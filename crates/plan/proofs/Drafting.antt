@@ -8,7 +8,8 @@ use borrow.Author.Tests.{le-leb, lt-leb}
 use lib.Dec.{leb}
 use lib.ListN.{length, length-append}
 use Rattle.number.specs.Encode.{encode, widthOf}
-use Rattle.number.proofs.Choice.{pick-true, pick-false, paired, first-false, second-false}
+use Rattle.basics.proofs.Choice.{pick-true, pick-false}
+use Rattle.basics.proofs.Tests.{and-both, first-false, second-false}
 use Rattle.field.specs.Put.{spellAll, openingBytes}
 use Rattle.field.specs.declared.Written.the-variants.{Length, Refused}
 use Rattle.field.specs.declared.Refusal.the-variants.{OutOfRange, NoRoom}
@@ -56,7 +57,7 @@ module _ (unit t : ℕ) (p : Plan) where
   -- the sheet is there
   pub draft : length (p .disks) ≤ 1024 → length (p .short) ≤ 1024 → planDraft unit t p ≡ sheet (planBytes unit t p)
   unfolding planDraft counted
-  draft k l = pick-true (sheet (planBytes unit t p)) (none 6) (paired (le-leb _ _ k) (le-leb _ _ l))
+  draft k l = pick-true (sheet (planBytes unit t p)) (none 6) (and-both _ _ (le-leb _ _ k) (le-leb _ _ l))
 
   module _ (out : List ℕ) where
     none-sent : counted p ≡ false → Sent (planDraft unit t p) out (Refused OutOfRange) out

@@ -15,7 +15,7 @@ use Rattle.field.specs.declared.Refusal.{Refusal}
 use Rattle.field.specs.Refusal.{numberOf}
 use Rattle.field.specs.Told.{told}
 use Rattle.field.proofs.Lists.{prefix}
-use Rattle.plan.specs.Receive.{over}
+use Rattle.basics.specs.Buffer.{over}
 use Rattle.plan.specs.Frame.{ended, Holds, Filled}
 
 -- the whole list is what stands in the first i entries, then the rest of the sheet

@@ -7,12 +7,13 @@ use borrow.Author.Tests.{le-leb, ltb-true, ltb-false}
 use lib.Dec.{ltb}
 use lib.ListN.{length, length-append}
 use Rattle.number.specs.Encode.{encode, widthOf}
-use Rattle.number.proofs.Choice.{pick-true, either}
+use Rattle.basics.proofs.Choice.{pick-true}
+use Rattle.basics.proofs.Tests.{by-cases}
 use Rattle.number.proofs.Encode.{width-one, width-top, width-bounds}
 use Rattle.field.specs.Put.{spellAll}
 use Rattle.field.specs.Sheet.{got}
 use Rattle.field.specs.Send.{Draft, answerTo}
-use Rattle.field.specs.Lists.{All, Rises}
+use Rattle.basics.specs.Lists.{All, Rises}
 use Rattle.plan.specs.Plan.{Plan}
 use Rattle.plan.specs.Range.{InRange}
 use Rattle.plan.specs.Draft.{planBytes, planDraft}
@@ -31,7 +32,7 @@ unfolding Rises spellAll widthOf
 rising-width floor high [] l h = omega arith
 rising-width floor high (x ∷ xs) l h =
     let rest : length (spellAll encode xs) ≤ (128 - (x + 1)) + 2 * (896 - (x + 1 - 128)) = rising-width (x + 1) high xs l (h .2) in
-    either (ltb x 128) (λ t. omega (arith, length-append (encode x) (spellAll encode xs), width-one x (ltb-true x 128 t), h .0, h .1))
+    by-cases (ltb x 128) (λ t. omega (arith, length-append (encode x) (spellAll encode xs), width-one x (ltb-true x 128 t), h .0, h .1))
     (λ f. omega (arith, length-append (encode x) (spellAll encode xs), width-top 1 x (omega (arith, h .1)) (omega (arith, h .1)), ltb-false x 128 f, h .0, h .1))
 
 -- whatever the unit and the tenancy: 1 + 5 + 5 + 2 + 5 + 1,024 + 2 + 1,920

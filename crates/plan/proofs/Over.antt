@@ -5,7 +5,7 @@ use Prim.Native.Nat.{ℕ, suc, _≤_, _<_}
 use native.Mathlib.Omega.{arith}
 use lib.ListN.{length, take, drop, set, getD, length-append, length-drop}
 use lib.Seq.{drop-cons, set-at, take-at}
-use Rattle.plan.specs.Receive.{over}
+use Rattle.basics.specs.Buffer.{over}
 
 pub over-none : (out : List ℕ) → out ≡ over [] out
 unfolding over

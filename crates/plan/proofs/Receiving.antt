@@ -10,7 +10,8 @@ use native.Mathlib.Omega.{arith}
 use borrow.Author.Tests.{le-leb, lt-leb}
 use lib.Dec.{leb}
 use lib.ListN.{length}
-use Rattle.number.proofs.Choice.{pick-true, pick-false, either, paired, first-false, second-false}
+use Rattle.basics.proofs.Choice.{pick-true, pick-false}
+use Rattle.basics.proofs.Tests.{by-cases, and-both, first-false, second-false}
 use Rattle.field.specs.Sheet.{Out, got, refused, times}
 use Rattle.field.specs.Field.{inside, ascending}
 use Rattle.field.specs.declared.Refusal.{Refusal}
@@ -19,14 +20,14 @@ use Rattle.field.specs.Refusal.{numberOf}
 use Rattle.field.proofs.Whole.{whole-got}
 use Rattle.plan.specs.declared.Frame.{Frame}
 use Rattle.plan.specs.declared.Found.{Found}
-use Rattle.plan.specs.declared.Found.the-variants.{Whole}
-use Rattle.plan.specs.declared.Found.the-variants.{Refused as Not}
+use Rattle.plan.specs.declared.Found.the-variants.{Whole, Refused as Not}
 use Rattle.plan.specs.declared.Head.{Head}
 use Rattle.plan.specs.declared.Answer.{Answer}
 use Rattle.plan.specs.declared.Answer.the-variants.{Accepted, Refused}
 use Rattle.plan.specs.Plan.{Plan, planFields, planSheet}
 use Rattle.plan.specs.Told.{toldPlan}
-use Rattle.plan.specs.Receive.{roomFor, settle, heads, over, disksLeft, shortLeft, Received}
+use Rattle.plan.specs.Receive.{roomFor, settle, heads, disksLeft, shortLeft, Received}
+use Rattle.basics.specs.Buffer.{over}
 use Rattle.plan.specs.Frame.{Holds, Framed, Checked}
 
 -- ---- the ways in which reading ends
@@ -57,7 +58,7 @@ module _ (p : Plan) (e : ℕ) (disks short : List ℕ) where
     pub received : {disks′ short′ : List ℕ} (high : ℕ) → high ≡ f .blocks - 1 → f .blocks ≤ length disks → f .size ≤ length short → Holds (times (f .blocks) (inside 0 63) s (f .disks)) disks disks′ → Holds (ascending (f .size) 0 high s (f .short)) short short′ → Received (got p e) e disks short (Accepted (record { blocks = f .blocks; time = f .time; size = f .size })) disks′ short′
     unfolding roomFor toldPlan settle heads disksLeft shortLeft Holds
     received {disks′} {short′} high top k l a b =
-        let room : roomFor p disks short ≡ true = paired (le-leb (length (p .disks)) (length disks) (omega (arith, w .blocks))) (le-leb (length (p .short)) (length short) (omega (arith, w .size))) in
+        let room : roomFor p disks short ≡ true = and-both _ _ (le-leb (length (p .disks)) (length disks) (omega (arith, w .blocks))) (le-leb (length (p .short)) (length short) (omega (arith, w .size))) in
         let x : settle (got p e) disks short ≡ got p e = pick-true (got p e) (refused 11) room in
         let ds : disks′ ≡ over (p .disks) disks = rw (w .disks) at a in
         let bs : short′ ≡ over (p .short) short = rw (w .short) at (rw top at b) in
@@ -106,7 +107,7 @@ module _ (bytes : ℕ) (disks short : List ℕ) (h : Head) (disks′ short′ : 
   took-got : (p : Plan) (e : ℕ) → Received (got p e) bytes disks short (Accepted h) disks′ short′ → Took (got p e) bytes disks short h disks′ short′
   unfolding toldPlan settle heads disksLeft shortLeft
   took-got p e r =
-      either (roomFor p disks short)
+      by-cases (roomFor p disks short)
       (λ t.
       let x : settle (got p e) disks short ≡ got p e = pick-true (got p e) (refused 11) t in
       let a : got h bytes ≡ heads (got p e) = r .answer ∙ ap heads x in

@@ -20,7 +20,7 @@ use Rattle.field.proofs.Read.{Reads, reads-bind, reads-then, reads-checked, rea
 use Rattle.field.proofs.Spelt.{Spelt, spelt-join, spelt-whole, inside-spelt}
 use Rattle.field.proofs.Whole.{whole-got}
 use Rattle.field.proofs.Opened.{reads-opening, opening-spelt}
-use Rattle.field.specs.Lists.{All, Rises}
+use Rattle.basics.specs.Lists.{All, Rises}
 use Rattle.field.proofs.Lists.{reads-times, reads-ascending, times-spelt, ascending-spelt}
 use Rattle.plan.specs.Plan.{Plan, ifAny, timeOf, sizeOf, listsOf, planFields, planSheet}
 use Rattle.plan.specs.Range.{InRange}
@@ -29,7 +29,7 @@ use Rattle.plan.specs.Draft.{planNumbers, planBytes, planDraft}
 use Rattle.plan.specs.declared.Head.{Head}
 use Rattle.plan.specs.declared.Answer.the-variants.{Accepted}
 use Rattle.plan.proofs.Bounds.{any-most}
-use Rattle.plan.proofs.Over.{over-front}
+use Rattle.basics.proofs.Buffer.{over-front}
 use Rattle.plan.proofs.Receiving.{Took, took}
 use Rattle.plan.proofs.Sending.{plan-drafted, sent-all}
 use Rattle.field.proofs.Spell.{spell-append}

@@ -4,7 +4,7 @@ use mathlib.Core.Bool.{Bool, _&&_}
 use mathlib.Core.List.{List, _∷_, _++_}
 use lib.ListN.{length}
 use lib.Dec.{leb}
-use Rattle.number.specs.Choice.{pick}
+use Rattle.basics.specs.Choice.{pick}
 use Rattle.number.specs.Encode.{encode}
 use Rattle.field.specs.Put.{spellAll}
 use Rattle.field.specs.Send.{Draft, sheet, none}

@@ -16,7 +16,7 @@ use Rattle.plan.specs.declared.Frame.{Frame}
 use Rattle.plan.specs.declared.Found.{Found}
 use Rattle.plan.specs.declared.Found.the-variants.{Whole, Refused}
 use Rattle.plan.specs.Plan.{Plan}
-use Rattle.plan.specs.Receive.{over}
+use Rattle.basics.specs.Buffer.{over}
 
 -- a reader of lists, as a reader of a field that answers 0
 unfoldable pub ended : Out (List ℕ) → Out ℕ

@@ -1,7 +1,7 @@
 -- A plan whose values are in their ranges: what a plan sheet can say.
 use Prim.Native.Nat.{_-_, _≤_}
 use lib.ListN.{length}
-use Rattle.field.specs.Lists.{All, Rises}
+use Rattle.basics.specs.Lists.{All, Rises}
 use Rattle.plan.specs.Plan.{Plan, ifAny}
 
 -- Q 0 to 1,024; R, m, disk numbers and the rising block numbers as document 01 has them

@@ -11,14 +11,14 @@ use borrow.Author.Tests.{ltb-true, ltb-false}
 use lib.Dec.{ltb}
 use lib.ListN.{length, take, drop, getD, replicate}
 use lib.Seq.{take-at, drop-at, getD-take}
-use Rattle.number.proofs.Choice.{either}
+use Rattle.basics.proofs.Tests.{by-cases}
 use Rattle.mask.specs.Count.{members}
 use Rattle.mask.proofs.Members.{members-zero}
 use Rattle.field.specs.declared.Refusal.{Refusal}
 use Rattle.field.specs.Refusal.{numberOf}
 use Rattle.field.specs.Sheet.{Out, got, refused}
 use Rattle.field.proofs.Values.{ascending-rises, times-all, all-at}
-use Rattle.field.specs.Lists.{All, Rises}
+use Rattle.basics.specs.Lists.{All, Rises}
 use Rattle.request.specs.declared.Answer.the-variants.{Accepted, Refused}
 use Rattle.request.specs.declared.Request.{Request}
 use Rattle.request.specs.Disks.{maskOf, disksOf}
@@ -34,7 +34,7 @@ use Rattle.request.proofs.Drafting.{Sendable}
 -- the last disk of N, where N is in its range
 pub last-of : (n : ℕ) → (n ≡ 0 → ⊥) → n ≤ 64 → lastDisk n + 1 ≡ n
 last-of n z l =
-    either (ltb n 64)
+    by-cases (ltb n 64)
     (λ t. omega (arith, last-few n (ltb-true n 64 t), z))
     (λ f. let e : 64 ≤ n = ltb-false n 64 f in omega (arith, last-all n e))
 

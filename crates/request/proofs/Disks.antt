@@ -13,11 +13,12 @@ use native.Mathlib.Omega.{arith}
 use borrow.Author.Tests.{eq-eqb, ne-eqb, eqb-true, eqb-false}
 use lib.Dec.{eqb}
 use lib.Pow.{pow-mono, mod-pow-add}
-use Rattle.number.specs.Choice.{pick}
-use Rattle.number.proofs.Choice.{pick-true, pick-false, either}
+use Rattle.basics.specs.Choice.{pick}
+use Rattle.basics.proofs.Choice.{pick-true, pick-false}
+use Rattle.basics.proofs.Tests.{by-cases}
 use Rattle.mask.specs.Has.{has}
 use Rattle.mask.proofs.Has.{has-above}
-use Rattle.field.specs.Lists.{All, Rises}
+use Rattle.basics.specs.Lists.{All, Rises}
 use Rattle.request.specs.Disks.{maskOf, disksBelow, disksOf}
 use Rattle.request.proofs.Masks.{has-plus, plus-lt}
 
@@ -32,7 +33,7 @@ mask-append (d ∷ xs) ys = omega (arith, mask-append xs ys)
 bit-at : (m d : ℕ) → maskOf (pick (has m d) (d ∷ []) []) ≡ (m / 2 ^ d % 2) * 2 ^ d
 unfolding has maskOf
 bit-at m d =
-    either (eqb (m / 2 ^ d % 2) 1)
+    by-cases (eqb (m / 2 ^ d % 2) 1)
     (λ t.
     let one : m / 2 ^ d % 2 ≡ 1 = eqb-true (m / 2 ^ d % 2) 1 t in
     ap maskOf (pick-true (d ∷ []) [] t) ∙ (omega (arith, ap (λ (k : ℕ). k * 2 ^ d) one)))
@@ -142,7 +143,7 @@ unfolding disksBelow Rises All
 disks-rising zero high m h = (tt, tt)
 disks-rising (suc d) high m h =
     let i : Rises 0 high (disksBelow d m) × All (λ x. x < d) (disksBelow d m) = disks-rising d high m (omega arith) in
-    either (has m d)
+    by-cases (has m d)
     (λ t. subst (λ (x : List ℕ). Rises 0 high (disksBelow d m ++ x) × All (λ x. x < suc d) (disksBelow d m ++ x))
     (sym (pick-true (d ∷ []) [] t)) (
       rises-snoc 0 high d (disksBelow d m) (i .0) (i .1) (omega arith) (omega arith),

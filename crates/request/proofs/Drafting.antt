@@ -11,21 +11,21 @@ use native.Mathlib.Omega.{arith}
 use borrow.Author.Tests.{eq-eqb, ne-eqb, lt-ltb, le-ltb, lt-leb, eqb-false, ltb-false, leb-false}
 use lib.Dec.{eqb, leb, ltb}
 use lib.ListN.{length, length-append}
-use Rattle.number.specs.Choice.{pick}
+use Rattle.basics.specs.Choice.{pick}
 use Rattle.number.specs.Encode.{encode, widthOf}
-use Rattle.number.proofs.Choice.{pick-true, pick-false}
+use Rattle.basics.proofs.Choice.{pick-true, pick-false}
 use Rattle.number.proofs.Encode.{width-one}
 use Rattle.mask.specs.Count.{members}
 use Rattle.field.specs.declared.Refusal.{Refusal}
 use Rattle.field.specs.declared.Written.{Written}
 use Rattle.field.specs.declared.Written.the-variants.{Length, Refused}
-use Rattle.field.specs.Put.{spellAll, openingBytes, Written as Wrote}
+use Rattle.field.specs.Put.{spellAll, openingBytes, Laid}
 use Rattle.field.specs.Refusal.{numberOf}
 use Rattle.field.specs.Send.{Draft, sheet, none, Sent}
-use Rattle.field.specs.Lists.{All}
+use Rattle.basics.specs.Lists.{All}
 use Rattle.field.proofs.Sends.{sent-fits}
 use Rattle.request.specs.Draft.{blockBytes, headingBytes, requestBytes, checked, requestDraft, Counted, Sized}
-use Rattle.field.proofs.Puts.{written-length, written-join}
+use Rattle.field.proofs.Puts.{laid-length, laid-join}
 use Rattle.field.proofs.Opened.{opening-length}
 use Rattle.request.proofs.Writing.{block-length}
 
@@ -177,12 +177,12 @@ module _ (unit t : ℕ) (ms out : List ℕ) (room : length (requestBytes unit t 
   unfolding requestBytes
   heading-room = omega (arith, length-append (headingBytes unit t (length ms)) (spellAll blockBytes ms))
 
-  module _ {mid : List ℕ} {p : ℕ} (w : Wrote out 0 (headingBytes unit t (length ms)) mid p) where
+  module _ {mid : List ℕ} {p : ℕ} (w : Laid out 0 (headingBytes unit t (length ms)) mid p) where
     pub blocks-room : p + length (spellAll blockBytes ms) ≤ length mid
     unfolding requestBytes
-    blocks-room = omega (arith, length-append (headingBytes unit t (length ms)) (spellAll blockBytes ms), w .place, written-length w)
+    blocks-room = omega (arith, length-append (headingBytes unit t (length ms)) (spellAll blockBytes ms), w .place, laid-length w)
 
-    pub request-sent : {after : List ℕ} {next : ℕ} → Wrote mid p (spellAll blockBytes ms) after next
+    pub request-sent : {after : List ℕ} {next : ℕ} → Laid mid p (spellAll blockBytes ms) after next
         → Sent (sheet (requestBytes unit t ms)) out (Length next) after
     unfolding requestBytes
-    request-sent f = sent-fits (written-join w f)
+    request-sent f = sent-fits (laid-join w f)

@@ -15,7 +15,7 @@ use borrow.Author.Tests.{eq-eqb, ne-eqb, lt-ltb, le-ltb, le-leb, lt-leb, leb-tru
 use lib.Dec.{eqb, leb, ltb}
 use lib.ListN.{length, replicate, take, drop, set, length-set, length-replicate, take-append-drop}
 use lib.Seq.{length-take-le, take-suc-set, drop-set-lt, drop-drop}
-use Rattle.number.proofs.Choice.{pick-true, pick-false, pick-elim}
+use Rattle.basics.proofs.Choice.{pick-true, pick-false, pick-elim}
 use Rattle.field.specs.declared.Refusal.{Refusal}
 use Rattle.field.specs.Refusal.{numberOf}
 use Rattle.field.specs.Sheet.{Out, got, refused, Parser, andThen, _>>=_, _>>_, pure, require, times}
@@ -26,8 +26,7 @@ use Rattle.field.proofs.Lists.{prefix, times-start, times-step, times-stop, tim
 use Rattle.field.proofs.Whole.{whole-next, whole-stops, whole-got, end-place}
 use Rattle.request.specs.declared.Answer.the-variants.{Accepted}
 use Rattle.request.specs.declared.Copies.{Copies}
-use Rattle.request.specs.declared.Copies.the-variants.{Got}
-use Rattle.request.specs.declared.Copies.the-variants.{Refused as NoBlock}
+use Rattle.request.specs.declared.Copies.the-variants.{Got, Refused as NoBlock}
 use Rattle.request.specs.declared.Request.{Request}
 use Rattle.request.specs.Disks.{maskOf}
 use Rattle.request.specs.Request.{lastDisk, block, heading, requestSheet}

@@ -16,11 +16,10 @@ use Rattle.field.specs.Sheet.{got, _>>=_, times}
 use Rattle.field.specs.Field.{whole}
 use Rattle.field.specs.Put.{spellAll, openingBytes}
 use Rattle.field.specs.Send.{sheet}
-use Rattle.field.proofs.Read.{Reads, reads-bind, reads-then, reads-pure, reads-require, reads-tested, reads-checked, reads-number}
-use Rattle.field.proofs.Read.{reads-inside, reads-whole}
+use Rattle.field.proofs.Read.{Reads, reads-bind, reads-then, reads-pure, reads-require, reads-tested, reads-checked, reads-number, reads-inside, reads-whole}
 use Rattle.field.proofs.Spelt.{Spelt, spelt-join, spelt-whole, number-spelt, inside-spelt}
 use Rattle.field.proofs.Opened.{reads-opening, opening-spelt}
-use Rattle.field.specs.Lists.{All, Rises}
+use Rattle.basics.specs.Lists.{All, Rises}
 use Rattle.field.proofs.Lists.{reads-times, reads-ascending, times-spelt, ascending-spelt}
 use Rattle.request.specs.Disks.{maskOf, disksOf}
 use Rattle.request.specs.Request.{lastDisk, block, heading, requestSheet}

@@ -11,7 +11,8 @@ use borrow.Author.Tests.{eq-eqb, ne-eqb, lt-ltb, le-ltb, le-leb, lt-leb, ltb-tru
 use lib.Dec.{ltb}
 use lib.ListN.{length, drop, getD, length-append}
 use lib.Seq.{drop-cons, drop-length}
-use Rattle.number.proofs.Choice.{pick-true, pick-false, either}
+use Rattle.basics.proofs.Choice.{pick-true, pick-false}
+use Rattle.basics.proofs.Tests.{by-cases}
 use Rattle.mask.specs.Has.{has}
 use Rattle.mask.specs.Member.{Below}
 use Rattle.mask.specs.Count.{members}
@@ -33,11 +34,11 @@ module _ (n m known rest : ℕ) (l : n ≤ 64) (b : Below n known) (h : m < 2 ^ 
 
   pub known-out : rest < 2 ^ 64 → (rest ≡ 0 → ⊥) → 2 ^ n ≤ m
   known-out r z =
-      either (ltb m (2 ^ n))
+      by-cases (ltb m (2 ^ n))
       (λ t.
       let s : (d : ℕ) × (d < 64) × (has rest d ≡ true) = mask-some 64 rest r (omega arith) in
       let under : m < 2 ^ n = ltb-true m (2 ^ n) t in
-      either (ltb (s .0) n)
+      by-cases (ltb (s .0) n)
       (λ g. absurd (true≢false (sym (s .2) ∙ w (s .0) ∙ ap (λ (t : Bool). has m (s .0) && not t) (b .holds l (s .0) ∙ g)
       ∙ and-false (has m (s .0)))))
       (λ g. absurd (true≢false (sym (s .2) ∙ beyond (s .0) (ltb-false (s .0) n g) ∙ has-above n under (ltb-false (s .0) n g)))))

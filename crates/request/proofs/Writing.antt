@@ -11,13 +11,14 @@ use native.Mathlib.Omega.{arith}
 use lib.ListN.{length, take, getD, length-append}
 use lib.Seq.{take-length}
 use Rattle.number.specs.Encode.{encode, widthOf}
-use Rattle.number.proofs.Choice.{pick-true, pick-false, either}
+use Rattle.basics.proofs.Choice.{pick-true, pick-false}
+use Rattle.basics.proofs.Tests.{by-cases}
 use Rattle.number.proofs.Encode.{width-one}
 use Rattle.mask.specs.Has.{has}
 use Rattle.mask.specs.Count.{bit, members}
 use Rattle.mask.proofs.Members.{members-le}
-use Rattle.field.specs.Put.{spellAll, Put, Written}
-use Rattle.field.proofs.Puts.{written-more, written-length, written-join, put-one}
+use Rattle.field.specs.Put.{spellAll, PutOne, Laid}
+use Rattle.field.proofs.Puts.{laid-more, laid-length, laid-join, put-one}
 use Rattle.field.proofs.Spell.{spell-append, spell-more}
 use Rattle.request.specs.Disks.{disksBelow, disksOf}
 use Rattle.request.specs.Draft.{blockBytes}
@@ -43,7 +44,7 @@ module _ (m : ℕ) where
   unfolding members bit disksBelow spellAll widthOf
   disks-length zero h = refl
   disks-length (suc d) h =
-      either (has m d)
+      by-cases (has m d)
       (λ t. omega (
         arith,
         ap length (disks-in d t),
@@ -58,7 +59,7 @@ module _ (m : ℕ) where
   unfolding members bit disksBelow
   disks-count zero = refl
   disks-count (suc d) =
-      either (has m d)
+      by-cases (has m d)
       (λ t. omega (
         arith,
         ap (λ (x : List ℕ). length (disksBelow d m ++ x)) (pick-true (d ∷ []) [] t),
@@ -89,9 +90,9 @@ module _ (m : ℕ) where
       ap (λ (k : ℕ). members k m) {x = d + suc k} {y = suc (d + k)} (omega arith) in
       omega (arith, members-mono d k)
 
-  module _ {out : List ℕ} {at : ℕ} (d : ℕ) {mid : List ℕ} {p : ℕ} (w : Written out at (spellAll encode (disksBelow d m)) mid p) where
+  module _ {out : List ℕ} {at : ℕ} (d : ℕ) {mid : List ℕ} {p : ℕ} (w : Laid out at (spellAll encode (disksBelow d m)) mid p) where
     pub disk-in : {next : ℕ} {after : List ℕ} → has m d ≡ true → d < 64 → at + length (spellAll encode (disksOf m)) ≤ length out
-        → Put d mid p next after → Written out at (spellAll encode (disksBelow (d + 1) m)) after next
+        → PutOne d mid p next after → Laid out at (spellAll encode (disksBelow (d + 1) m)) after next
     unfolding disksOf
     disk-in {next} {after} t l room f =
         let one : widthOf d ≡ 1 = width-one d (omega arith) in
@@ -100,18 +101,18 @@ module _ (m : ℕ) where
         ≡ members 64 m = ap (λ (k : ℕ). members k m) {x = suc d + (64 - suc d)} {y = 64} (omega arith) in
         let e : spellAll encode (disksBelow d m) ++ encode d ≡ spellAll encode (disksBelow (d + 1) m) =
         sym (disks-in d t) ∙ ap (λ (k : ℕ). spellAll encode (disksBelow k m)) {x = suc d} {y = d + 1} (omega arith) in
-        subst (λ (x : List ℕ). Written out at x after next) e
-        (written-more w f (omega (arith, w .place, disks-length d (omega arith), disks-length 64 (omega arith), members-in d t)))
+        subst (λ (x : List ℕ). Laid out at x after next) e
+        (laid-more w f (omega (arith, w .place, disks-length d (omega arith), disks-length 64 (omega arith), members-in d t)))
 
-    pub disk-out : has m d ≡ false → Written out at (spellAll encode (disksBelow (d + 1) m)) mid p
+    pub disk-out : has m d ≡ false → Laid out at (spellAll encode (disksBelow (d + 1) m)) mid p
     disk-out f =
         let e : spellAll encode (disksBelow d m) ≡ spellAll encode (disksBelow (d + 1) m) =
         sym (disks-out d f) ∙ ap (λ (k : ℕ). spellAll encode (disksBelow k m)) {x = suc d} {y = d + 1} (omega arith) in
-        subst (λ (x : List ℕ). Written out at x mid p) e w
+        subst (λ (x : List ℕ). Laid out at x mid p) e w
 
-    pub disks-all : d ≡ 64 → Written out at (spellAll encode (disksOf m)) mid p
+    pub disks-all : d ≡ 64 → Laid out at (spellAll encode (disksOf m)) mid p
     unfolding disksOf
-    disks-all e = subst (λ (k : ℕ). Written out at (spellAll encode (disksBelow k m)) mid p) e w
+    disks-all e = subst (λ (k : ℕ). Laid out at (spellAll encode (disksBelow k m)) mid p) e w
 
   -- ---- a block
 
@@ -126,8 +127,8 @@ module _ (m : ℕ) where
       )
 
   module _ {out : List ℕ} {at k p : ℕ} {mid : List ℕ} (e : k ≡ members 64 m) (h : at + length (blockBytes m) ≤ length out)
-      (f : Put k out at p mid) where
-    count-put : Written out at (encode k) mid p
+      (f : PutOne k out at p mid) where
+    count-put : Laid out at (encode k) mid p
     count-put = put-one f (omega (arith, block-length, width-one k (omega (arith, e, members-le 64 m))))
 
     -- behind the copy count there is room for the disks
@@ -138,24 +139,24 @@ module _ (m : ℕ) where
       e,
       block-length,
       count-put .place,
-      written-length count-put,
+      laid-length count-put,
       width-one k (omega (arith, e, members-le 64 m)),
       disks-length 64 (omega arith),
     )
 
-    pub block-put : {next : ℕ} {after : List ℕ} → Written mid p (spellAll encode (disksOf m)) after next
-        → Written out at (blockBytes m) after next
+    pub block-put : {next : ℕ} {after : List ℕ} → Laid mid p (spellAll encode (disksOf m)) after next
+        → Laid out at (blockBytes m) after next
     unfolding blockBytes disksOf
     block-put {next} {after} w =
         let q : encode k ≡ encode (length (disksBelow 64 m)) = ap encode (e ∙ sym (disks-count 64)) in
-        subst (λ (x : List ℕ). Written out at (x ++ spellAll encode (disksBelow 64 m)) after next) q (written-join count-put w)
+        subst (λ (x : List ℕ). Laid out at (x ++ spellAll encode (disksBelow 64 m)) after next) q (laid-join count-put w)
 
 -- ---- block after block
 
 module _ (ms : List ℕ) (i : ℕ) {out : List ℕ} {at : ℕ} {mid : List ℕ} {p : ℕ} where
-  pub blocks-more : {next : ℕ} {after : List ℕ} → i < length ms → Written out at (spellAll blockBytes (take i ms)) mid p
-      → Written mid p (blockBytes (getD ms i 0)) after next → Written out at (spellAll blockBytes (take (i + 1) ms)) after next
-  blocks-more {next} {after} l w f = subst (λ (x : List ℕ). Written out at x after next) (spell-more blockBytes ms i 0 l) (written-join w f)
+  pub blocks-more : {next : ℕ} {after : List ℕ} → i < length ms → Laid out at (spellAll blockBytes (take i ms)) mid p
+      → Laid mid p (blockBytes (getD ms i 0)) after next → Laid out at (spellAll blockBytes (take (i + 1) ms)) after next
+  blocks-more {next} {after} l w f = subst (λ (x : List ℕ). Laid out at x after next) (spell-more blockBytes ms i 0 l) (laid-join w f)
 
-  pub blocks-all : Written out at (spellAll blockBytes (take i ms)) mid p → i ≡ length ms → Written out at (spellAll blockBytes ms) mid p
-  blocks-all w e = subst (λ (x : List ℕ). Written out at (spellAll blockBytes x) mid p) (ap (λ (k : ℕ). take k ms) e ∙ take-length ms) w
+  pub blocks-all : Laid out at (spellAll blockBytes (take i ms)) mid p → i ≡ length ms → Laid out at (spellAll blockBytes ms) mid p
+  blocks-all w e = subst (λ (x : List ℕ). Laid out at (spellAll blockBytes x) mid p) (ap (λ (k : ℕ). take k ms) e ∙ take-length ms) w

@@ -4,7 +4,7 @@
 --     disksOf        all its disks, rising
 use Prim.Native.Nat.{ℕ, zero, suc, _+_, _^_}
 use mathlib.Core.List.{List, [], _∷_, _++_}
-use Rattle.number.specs.Choice.{pick}
+use Rattle.basics.specs.Choice.{pick}
 use Rattle.mask.specs.Has.{has}
 
 -- the sum of a power of two for each disk

@@ -7,7 +7,7 @@ use Prim.Native.Nat.{ℕ, _-_}
 use mathlib.Core.Bool.{not}
 use mathlib.Core.List.{List}
 use lib.Dec.{eqb, leb, ltb}
-use Rattle.number.specs.Choice.{pick}
+use Rattle.basics.specs.Choice.{pick}
 use Rattle.field.specs.Sheet.{Parser, _>>=_, _>>_, pure, require, times}
 use Rattle.field.specs.Field.{number, opening, inside, ascending, whole}
 use Rattle.request.specs.Disks.{maskOf}

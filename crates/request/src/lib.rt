@@ -8,8 +8,7 @@ ghost use lib.ListN.{length, getD};
 ghost use Rattle.basics.specs.Limits.{disksMost, blocksMost};
 ghost use Rattle.number.specs.Encode.{encode};
 ghost use Rattle.field.specs.Field.{ascending, whole};
-ghost use Rattle.field.specs.Put.{spellAll};
-ghost use Rattle.field.specs.Put.{Written as Wrote};
+ghost use Rattle.field.specs.Put.{spellAll, Laid};
 ghost use Rattle.field.specs.Refusal.{numberOf};
 ghost use Rattle.field.specs.Send.{Sent, sheet};
 ghost use Rattle.field.specs.Sheet.{refused, times};
@@ -209,7 +208,7 @@ fn size(copies: &[u64], disks: usize) -> Written
 // Puts the disks of a block, rising.
 fn put_disks(m: u64, out: &mut [u8], at: usize) -> usize
     requires { ⌜ at + length (spellAll encode (disksOf m)) ≤ length (now out) ⌝ }
-    ensures { λ r. ⌜ Wrote (now (out .entry)) at (spellAll encode (disksOf m)) (now (out .exit)) r ⌝ }
+    ensures { λ r. ⌜ Laid (now (out .entry)) at (spellAll encode (disksOf m)) (now (out .exit)) r ⌝ }
 {
     let mut p = at;
     let mut d: u32 = 0;
@@ -225,7 +224,7 @@ fn put_disks(m: u64, out: &mut [u8], at: usize) -> usize
 // Puts a block: its copy count and its disks.
 fn put_block(m: u64, out: &mut [u8], at: usize) -> usize
     requires { ⌜ at + length (blockBytes m) ≤ length (now out) ⌝ }
-    ensures { λ r. ⌜ Wrote (now (out .entry)) at (blockBytes m) (now (out .exit)) r ⌝ }
+    ensures { λ r. ⌜ Laid (now (out .entry)) at (blockBytes m) (now (out .exit)) r ⌝ }
 {
     let p = field::put(mask::count(m), out, at);
     put_disks(m, out, p)
@@ -234,7 +233,7 @@ fn put_block(m: u64, out: &mut [u8], at: usize) -> usize
 // Puts block after block.
 fn put_blocks(copies: &[u64], out: &mut [u8], at: usize) -> usize
     requires { ⌜ at + length (spellAll blockBytes (now copies)) ≤ length (now out) ⌝ }
-    ensures { λ r. ⌜ Wrote (now (out .entry)) at (spellAll blockBytes (now (copies .entry))) (now (out .exit)) r ⌝ }
+    ensures { λ r. ⌜ Laid (now (out .entry)) at (spellAll blockBytes (now (copies .entry))) (now (out .exit)) r ⌝ }
 {
     let mut p = at;
     let mut i: usize = 0;
@@ -248,7 +247,7 @@ fn put_blocks(copies: &[u64], out: &mut [u8], at: usize) -> usize
 // Puts the fields before the blocks.
 fn put_heading(unit: u32, tenancy: u32, q: u32, out: &mut [u8]) -> usize
     requires { ⌜ length (headingBytes unit tenancy q) ≤ length (now out) ⌝ }
-    ensures { λ r. ⌜ Wrote (now (out .entry)) 0 (headingBytes unit tenancy q) (now (out .exit)) r ⌝ }
+    ensures { λ r. ⌜ Laid (now (out .entry)) 0 (headingBytes unit tenancy q) (now (out .exit)) r ⌝ }
 {
     let at = field::put_opening(2, unit, tenancy, out);
     field::put(q, out, at)

@@ -6,10 +6,9 @@ use native.Mathlib.Omega.{arith}
 use borrow.Author.Tests.{eq-eqb, ne-eqb, le-leb, lt-leb}
 use lib.ListN.{length, take, drop, length-append}
 use lib.Seq.{take-append-le}
-use Rattle.number.proofs.Choice.{pick-true, pick-false}
+use Rattle.basics.proofs.Choice.{pick-true, pick-false}
 use Rattle.field.specs.declared.Refusal.{Refusal}
-use Rattle.field.specs.declared.Written.the-variants.{Length}
-use Rattle.field.specs.declared.Written.the-variants.{Refused as NotWritten}
+use Rattle.field.specs.declared.Written.the-variants.{Length, Refused as NotWritten}
 use Rattle.field.specs.Refusal.{numberOf}
 use Rattle.field.specs.Send.{toldWritten}
 use Rattle.field.specs.Sheet.{Out, got, refused}
@@ -18,8 +17,7 @@ use Rattle.plan.specs.Plan.{Plan}
 use Rattle.plan.proofs.Sending.{sent-all, sent-none}
 use Rattle.request.specs.Request.{requestSheet}
 use Rattle.unit.specs.declared.Answer.{Answer}
-use Rattle.unit.specs.declared.Answer.the-variants.{Accepted}
-use Rattle.unit.specs.declared.Answer.the-variants.{Refused as Denied}
+use Rattle.unit.specs.declared.Answer.the-variants.{Accepted, Refused as Denied}
 use Rattle.unit.specs.declared.Done.{Done}
 use Rattle.unit.specs.declared.Planned.{Planned}
 use Rattle.unit.specs.declared.Unit.{Unit}
@@ -32,8 +30,7 @@ use Rattle.unit.proofs.Plans.{plan-for-unique}
 use Rattle.unit.proofs.Sound.{sound-rent, sound-set, sound-back}
 use Rattle.unit.proofs.Within.{answered-as, answered-within}
 use Rattle.stream.specs.declared.Call.{Call}
-use Rattle.stream.specs.declared.Call.the-variants.{Rent, Settings, Request, Return}
-use Rattle.stream.specs.declared.Call.the-variants.{Refused as NoCall}
+use Rattle.stream.specs.declared.Call.the-variants.{Rent, Settings, Request, Return, Refused as NoCall}
 use Rattle.service.specs.declared.Turn.{Turn}
 use Rattle.line.specs.declared.Word.{Word}
 use Rattle.line.specs.declared.Word.the-variants.{Rented, Set, Returned, Refused, Stopped}

@@ -7,14 +7,13 @@ use mathlib.Core.Path.{_≡_}
 use mathlib.Core.List.{List, []}
 use lib.Dec.{eqb, leb}
 use lib.ListN.{length}
-use Rattle.number.specs.Choice.{pick}
+use Rattle.basics.specs.Choice.{pick}
 use Rattle.field.specs.Sheet.{Out, got, refused}
 use Rattle.plan.specs.Draft.{planBytes}
 use Rattle.plan.specs.Plan.{Plan}
 use Rattle.request.specs.Request.{requestSheet}
 use Rattle.unit.specs.declared.Unit.{Unit}
-use Rattle.unit.specs.Life.{Verdict, accepted, rent, set, giveBack}
-use Rattle.unit.specs.Life.{refused as denied}
+use Rattle.unit.specs.Life.{Verdict, accepted, rent, set, giveBack, refused as denied}
 use Rattle.unit.specs.Request.{PlanFor}
 use Rattle.unit.specs.Unit.{tenancyOf}
 use Rattle.service.specs.declared.Turn.{Turn}

@@ -11,14 +11,14 @@ use Prim.Native.Nat.{ℕ, zero, suc, _+_, _-_, _≤_, _<_}
 use native.Mathlib.Omega.{arith}
 use lib.ListN.{length, getD, replicate, length-append, length-replicate, List·getD-append}
 use lib.Seq.{getD-append-add}
-use Rattle.number.proofs.Choice.{both, paired}
+use Rattle.basics.proofs.Tests.{both, and-both}
 use Rattle.field.specs.Sheet.{Out, got, refused, _>>=_, pure, times}
 use Rattle.field.specs.Field.{opening, tenancy, inside}
-use Rattle.field.proofs.Lists.{replicate-at}
+use Rattle.basics.proofs.Lists.{replicate-at}
 use Rattle.field.proofs.Sheet.{Step, bind-got, after-got, pure-got}
 use Rattle.field.proofs.Whole.{whole-got}
 use Rattle.field.proofs.Opened.{Opened, opening-steps}
-use Rattle.field.specs.Lists.{All}
+use Rattle.basics.specs.Lists.{All}
 use Rattle.settings.specs.declared.Row.{Row}
 use Rattle.settings.specs.declared.Settings.{Settings}
 use Rattle.settings.specs.declared.Table.{Table}
@@ -69,7 +69,7 @@ row-good s at r e h =
 pub rows-all : (rs : List Row) → All (λ r. inRange r ≡ true) rs → allInRange rs ≡ true
 unfolding All allInRange
 rows-all [] h = refl
-rows-all (r ∷ rs) h = paired (h .0) (rows-all rs (h .1))
+rows-all (r ∷ rs) h = and-both _ _ (h .0) (rows-all rs (h .1))
 
 rows-good : (s : List ℕ) (n at : ℕ) (rs : List Row) (e : ℕ) → times n row s at ≡ got rs e → (length rs ≡ n) × (allInRange rs ≡ true)
 rows-good s n at rs e h =

@@ -11,7 +11,8 @@ use borrow.Author.Tests.{le-leb, leb-true}
 use lib.Dec.{leb}
 use lib.ListN.{length, length-append}
 use Rattle.number.specs.Encode.{encode, widthOf}
-use Rattle.number.proofs.Choice.{pick-true, pick-false, pick-elim, either, both, paired}
+use Rattle.basics.proofs.Choice.{pick-true, pick-false, pick-elim}
+use Rattle.basics.proofs.Tests.{by-cases, both, and-both}
 use Rattle.number.proofs.Encode.{width-top, width-bounds}
 use Rattle.settings.specs.declared.Row.{Row}
 use Rattle.settings.specs.Row.{inRange, rowBytes}
@@ -35,7 +36,7 @@ in-range r h =
 
 pub range-in : (r : Row) → InRange r → inRange r ≡ true
 unfolding inRange
-range-in r w = paired (le-leb _ _ (w .cost-low)) (paired (le-leb _ _ (w .cost-high)) (paired (le-leb _ _ (w .load-high)) (le-leb _ _ (w .delay-high))))
+range-in r w = and-both _ _ (le-leb _ _ (w .cost-low)) (and-both _ _ (le-leb _ _ (w .cost-high)) (and-both _ _ (le-leb _ _ (w .load-high)) (le-leb _ _ (w .delay-high))))
 
 -- ---- the bytes of a row
 
@@ -57,7 +58,7 @@ row-top r h =
 pub row-sized : (r : Row) (w : ℕ) → w ≡ rowWidth r → (w ≡ 0 → ⊥) → (inRange r ≡ true) × (w ≡ length (rowBytes r))
 unfolding rowWidth
 row-sized r w e z =
-    either (inRange r)
+    by-cases (inRange r)
     (λ t. (t, e ∙ pick-true _ _ t))
     (λ f. absurd (z (e ∙ pick-false _ _ f)))
 
@@ -65,7 +66,7 @@ row-sized r w e z =
 pub row-out : (r : Row) (w : ℕ) → w ≡ rowWidth r → w ≡ 0 → inRange r ≡ false
 unfolding rowWidth
 row-out r w e z =
-    either (inRange r)
+    by-cases (inRange r)
     (λ t. let k : length (rowBytes r) ≡ 0 = sym (pick-true _ _ t) ∙ sym e ∙ z in absurd (omega (arith, row-length r, width-bounds (r .cost))))
     (λ f. f)
 

@@ -12,17 +12,19 @@ use lib.ListN.{length, take, replicate, length-map}
 use lib.Seq.{take-at}
 use Rattle.number.specs.Bytes.{Bytes}
 use Rattle.number.specs.Encode.{encode}
-use Rattle.number.proofs.Choice.{pick-true, both, paired}
+use Rattle.basics.proofs.Choice.{pick-true}
+use Rattle.basics.proofs.Tests.{both, and-both}
 use Rattle.field.specs.declared.Written.{Written}
 use Rattle.field.specs.declared.Written.the-variants.{Length}
-use Rattle.field.specs.Put.{paste, spellAll, openingBytes}
+use Rattle.basics.specs.Buffer.{paste}
+use Rattle.field.specs.Put.{spellAll, openingBytes}
 use Rattle.field.specs.Send.{sheet, none, toldWritten, answerTo, leftBy, Sent}
 use Rattle.field.specs.Sheet.{got, refused, times}
 use Rattle.field.proofs.Read.{Reads, reads-bind, reads-then, reads-pure, reads-checked, reads-inside, reads-whole}
 use Rattle.field.proofs.Spelt.{Spelt, spelt-join, spelt-whole, inside-spelt}
 use Rattle.field.proofs.Opened.{reads-opening, opening-spelt}
 use Rattle.field.proofs.Sends.{sent-bytes, written-injective}
-use Rattle.field.specs.Lists.{All}
+use Rattle.basics.specs.Lists.{All}
 use Rattle.field.proofs.Lists.{reads-times, times-spelt}
 use Rattle.settings.specs.declared.Row.{Row}
 use Rattle.settings.specs.declared.Table.{Table}
@@ -115,8 +117,8 @@ draft-rows unit t n rs rented some few count good =
     let d : length ds ≡ length cs = length-map rs (λ r. r .delay) ∙ sym c in
     ap (λ x. settingsDraft unit t (map (λ r. r .cost) x) (map (λ r. r .load) x) (map (λ r. r .delay) x)) (disks-table n rs count)
     ∙ draft-whole unit t cs ls ds
-    (paired (lt-ltb 0 t rented) (paired (eq-eqb _ _ l) (eq-eqb _ _ d)))
-    (paired (le-leb 1 (length cs) (omega arith)) (paired (le-leb (length cs) 64 (omega arith)) (ap allInRange (rows-again rs) ∙ good)))
+    (and-both _ _ (lt-ltb 0 t rented) (and-both _ _ (eq-eqb _ _ l) (eq-eqb _ _ d)))
+    (and-both _ _ (le-leb 1 (length cs) (omega arith)) (and-both _ _ (le-leb (length cs) 64 (omega arith)) (ap allInRange (rows-again rs) ∙ good)))
     ∙ ap (λ x. sheet (sheetBytes unit t x)) (rows-again rs)
 
 -- the draft of an accepted table is the sheet that was read

@@ -11,7 +11,8 @@ use native.Mathlib.Omega.{arith}
 use native.Mathlib.Numerals.{add-one}
 use lib.ListN.{length, take, drop, getD, length-append}
 use lib.Seq.{take-suc, take-all, split-at, length-take-le}
-use Rattle.number.proofs.Choice.{pick-true, pick-false, pick-elim, either, both, paired, second-false}
+use Rattle.basics.proofs.Choice.{pick-true, pick-false, pick-elim}
+use Rattle.basics.proofs.Tests.{by-cases, both, and-both, second-false}
 use Rattle.number.proofs.Encode.{width-bounds}
 use Rattle.field.specs.Put.{spellAll}
 use Rattle.field.proofs.Spell.{spell-more}
@@ -64,7 +65,7 @@ all-more : (rows : List Row) (i : ℕ) → i < length rows → allInRange (take 
 unfolding allInRange
 all-more rows i h a t =
     ap (λ n. allInRange (take n rows)) (add-one i) ∙ ap allInRange (take-suc rows i (disk 0 0 0) h) ∙ all-append (take i rows) (getD rows i (disk 0 0 0) ∷ [])
-    ∙ paired a (paired t refl)
+    ∙ and-both _ _ a (and-both _ _ t refl)
 
 pub rows-top : (rows : List Row) → allInRange rows ≡ true → length (spellAll rowBytes rows) ≤ 10 * length rows
 unfolding allInRange spellAll
@@ -79,7 +80,7 @@ rows-top (r ∷ rows) h =
 pub rows-sized : (rows : List Row) (w : ℕ) → w ≡ rowsWidth rows → (w ≡ 0 → ⊥) → (allInRange rows ≡ true) × (w ≡ length (spellAll rowBytes rows))
 unfolding rowsWidth
 rows-sized rows w e z =
-    either (allInRange rows)
+    by-cases (allInRange rows)
     (λ t. (t, e ∙ pick-true _ _ t))
     (λ f. absurd (z (e ∙ pick-false _ _ f)))
 
@@ -88,7 +89,7 @@ pub rows-out : (rows : List Row) (w : ℕ) → 1 ≤ length rows → w ≡ rowsW
 unfolding rowsWidth spellAll
 rows-out [] w l e z = absurd (omega arith)
 rows-out (r ∷ rows) w l e z =
-    either (allInRange (r ∷ rows))
+    by-cases (allInRange (r ∷ rows))
     (λ t.
     let k : length (rowBytes r ++ spellAll rowBytes rows) ≡ 0 = sym (pick-true _ _ t) ∙ sym e ∙ z in
     absurd (omega (arith, length-append (rowBytes r) (spellAll rowBytes rows), row-length r, width-bounds (r .cost))))

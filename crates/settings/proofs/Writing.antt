@@ -14,14 +14,15 @@ use lib.Dec.{eqb, leb, ltb}
 use lib.ListN.{length, take, getD, length-append}
 use lib.Seq.{take-all}
 use Rattle.number.specs.Encode.{encode, widthOf}
-use Rattle.number.proofs.Choice.{pick-true, pick-false, pick-elim, either, both, paired, second-false}
+use Rattle.basics.proofs.Choice.{pick-true, pick-false, pick-elim}
+use Rattle.basics.proofs.Tests.{by-cases, both, and-both, second-false}
 use Rattle.number.proofs.Encode.{width-one}
-use Rattle.field.specs.Put.{spellAll, openingBytes, Written}
+use Rattle.field.specs.Put.{spellAll, openingBytes, Laid}
 use Rattle.field.specs.declared.Refusal.the-variants.{OutOfRange, NoRoom}
 use Rattle.field.specs.declared.Written.the-variants.{Length, Refused}
 use Rattle.field.specs.Refusal.{numberOf}
 use Rattle.field.specs.Send.{sheet, none, Sent}
-use Rattle.field.proofs.Puts.{written-none, written-length, written-join, spell-room}
+use Rattle.field.proofs.Puts.{laid-none, laid-length, laid-join, spell-room}
 use Rattle.field.proofs.Opened.{opening-length}
 use Rattle.field.proofs.Sends.{sent-refused, sent-long, sent-fits}
 use Rattle.settings.specs.declared.Row.{Row}
@@ -36,11 +37,11 @@ use Rattle.settings.proofs.Rows.{length-rows, rows-sized, rows-out}
 -- i rows are put: their bytes stand from the start on
 pub record RowsPut (rows : List Row) (out : List ℕ) (start : ℕ) (mid : List ℕ) (p i : ℕ) : Type 0 where
   pub below : i ≤ length rows
-  pub done : Written out start (spellAll rowBytes (take i rows)) mid p
+  pub done : Laid out start (spellAll rowBytes (take i rows)) mid p
 
 pub puts-start : (rows : List Row) (out : List ℕ) (start : ℕ) → start + length (spellAll rowBytes rows) ≤ length out → RowsPut rows out start out start 0
 unfolding spellAll
-puts-start rows out start h = record { below = omega arith; done = written-none out start (omega arith) }
+puts-start rows out start h = record { below = omega arith; done = laid-none out start (omega arith) }
 
 module _ {rows : List Row} {out : List ℕ} {start : ℕ} {mid : List ℕ} {p i : ℕ} (w : RowsPut rows out start mid p i) where
   module _ (h : i < length rows) {r : Row} (e : getD rows i (disk 0 0 0) ≡ r) where
@@ -51,11 +52,11 @@ module _ {rows : List Row} {out : List ℕ} {start : ℕ} {mid : List ℕ} {p i 
     pub puts-room : start + length (spellAll rowBytes rows) ≤ length out → p + length (rowBytes r) ≤ length mid
     puts-room l = subst (λ (x : Row). p + length (rowBytes x) ≤ length mid) e (spell-room rowBytes rows i (disk 0 0 0) h (w .done) l)
 
-    pub puts-step : {after : List ℕ} {next : ℕ} → Written mid p (rowBytes r) after next → RowsPut rows out start after next (i + 1)
-    puts-step {after} {next} u = record { below = omega arith; done = subst (λ (x : List ℕ). Written out start x after next) (sym more) (written-join (w .done) u) }
+    pub puts-step : {after : List ℕ} {next : ℕ} → Laid mid p (rowBytes r) after next → RowsPut rows out start after next (i + 1)
+    puts-step {after} {next} u = record { below = omega arith; done = subst (λ (x : List ℕ). Laid out start x after next) (sym more) (laid-join (w .done) u) }
 
-  pub puts-done : length rows ≤ i → Written out start (spellAll rowBytes rows) mid p
-  puts-done h = subst (λ (x : List Row). Written out start (spellAll rowBytes x) mid p) (take-all i rows h) (w .done)
+  pub puts-done : length rows ≤ i → Laid out start (spellAll rowBytes rows) mid p
+  puts-done h = subst (λ (x : List Row). Laid out start (spellAll rowBytes x) mid p) (take-all i rows h) (w .done)
 
 -- ---- the length of a sheet
 
@@ -116,9 +117,9 @@ module _ (unit t : ℕ) (cs ls ds : List ℕ) where
   pub draft-either : {X : Type 0} → (settingsDraft unit t cs ls ds ≡ none 6 → X) → (Sheeted → X) → X
   unfolding settingsDraft
   draft-either f g =
-      either (ltb 0 t && equalLengths cs ls ds)
+      by-cases (ltb 0 t && equalLengths cs ls ds)
       (λ p.
-      either (leb 1 (length cs) && (leb (length cs) 64 && allInRange (rowsOf cs ls ds)))
+      by-cases (leb 1 (length cs) && (leb (length cs) 64 && allInRange (rowsOf cs ls ds)))
       (λ q. g (sheeted p q))
       (λ n. f (pick-true _ _ p ∙ pick-false _ _ n)))
       (λ n. f (pick-false _ _ n))
@@ -164,7 +165,7 @@ module _ (unit t : ℕ) (cs ls ds : List ℕ) where
     width-sheet {a} {b} r few z f g =
         let k : (allInRange (rowsOf cs ls ds) ≡ true) × (w ≡ length (spellAll rowBytes (rowsOf cs ls ds))) = rows-sized (rowsOf cs ls ds) w e z in
         let s : settingsDraft unit t cs ls ds ≡ sheet (sheetBytes unit t (rowsOf cs ls ds)) =
-        draft-whole (paired (lt-ltb 0 t (omega arith)) (paired (eq-eqb _ _ p) (eq-eqb _ _ q))) (paired (le-leb _ _ some) (paired (le-leb _ _ few) (k .0))) in
+        draft-whole (and-both _ _ (lt-ltb 0 t (omega arith)) (and-both _ _ (eq-eqb _ _ p) (eq-eqb _ _ q))) (and-both _ _ (le-leb _ _ some) (and-both _ _ (le-leb _ _ few) (k .0))) in
         omega (arith, ap draftWidth s, f, g, k .1, sheet-length unit t (rowsOf cs ls ds) (omega (arith, length-rows cs ls ds p q)))
 
   -- ---- the three ways in which the writer ends
@@ -194,13 +195,13 @@ module _ (unit t : ℕ) (cs ls ds : List ℕ) where
         pub head-room : length (headBytes unit t (length cs)) ≤ length out
         head-room = omega (arith, length-sheet)
 
-        module _ {mid : List ℕ} {p : ℕ} (h : Written out 0 (headBytes unit t (length cs)) mid p) where
+        module _ {mid : List ℕ} {p : ℕ} (h : Laid out 0 (headBytes unit t (length cs)) mid p) where
           pub rows-room : p + length (spellAll rowBytes (rowsOf cs ls ds)) ≤ length mid
-          rows-room = omega (arith, length-sheet, h .place, written-length h)
+          rows-room = omega (arith, length-sheet, h .place, laid-length h)
 
-          pub write-done : {after : List ℕ} {next : ℕ} → Written mid p (spellAll rowBytes (rowsOf cs ls ds)) after next → Sent (settingsDraft unit t cs ls ds) out (Length next) after
+          pub write-done : {after : List ℕ} {next : ℕ} → Laid mid p (spellAll rowBytes (rowsOf cs ls ds)) after next → Sent (settingsDraft unit t cs ls ds) out (Length next) after
           unfolding sheetBytes
           write-done {after} {next} r =
               subst (λ d. Sent d out (Length next) after) (sym (write-sheet .is))
-              (sent-fits (subst (λ (n : ℕ). Written out 0 (headBytes unit t n ++ spellAll rowBytes (rowsOf cs ls ds)) after next)
-              (sym (length-rows cs ls ds (write-sheet .loads) (write-sheet .delays))) (written-join h r)))
+              (sent-fits (subst (λ (n : ℕ). Laid out 0 (headBytes unit t n ++ spellAll rowBytes (rowsOf cs ls ds)) after next)
+              (sym (length-rows cs ls ds (write-sheet .loads) (write-sheet .delays))) (laid-join h r)))

@@ -4,7 +4,7 @@ use mathlib.Core.Bool.{Bool, _&&_}
 use mathlib.Core.List.{List, [], _∷_, _++_}
 use lib.ListN.{length}
 use lib.Dec.{eqb, leb, ltb}
-use Rattle.number.specs.Choice.{pick}
+use Rattle.basics.specs.Choice.{pick}
 use Rattle.number.specs.Encode.{encode}
 use Rattle.field.specs.Put.{spellAll, openingBytes}
 use Rattle.field.specs.Send.{Draft, sheet, none}

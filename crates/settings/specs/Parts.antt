@@ -2,7 +2,7 @@
 use Prim.Native.Nat.{ℕ}
 use mathlib.Core.List.{List}
 use lib.ListN.{length}
-use Rattle.number.specs.Choice.{pick}
+use Rattle.basics.specs.Choice.{pick}
 use Rattle.field.specs.Put.{spellAll}
 use Rattle.field.specs.Refusal.{numberOf}
 use Rattle.field.specs.Send.{Draft, sheet, none}
@@ -12,8 +12,7 @@ use Rattle.settings.specs.declared.Answer.the-variants.{Refused}
 use Rattle.field.specs.declared.Refusal.{Refusal}
 use Rattle.settings.specs.declared.Row.{Row}
 use Rattle.settings.specs.declared.RowRead.{RowRead}
-use Rattle.settings.specs.declared.RowRead.the-variants.{Got}
-use Rattle.settings.specs.declared.RowRead.the-variants.{Refused as Stopped}
+use Rattle.settings.specs.declared.RowRead.the-variants.{Got, Refused as Stopped}
 use Rattle.settings.specs.declared.Settings.{Settings}
 use Rattle.settings.specs.declared.Table.{Table}
 use Rattle.settings.specs.Row.{row, inRange, allInRange, rowBytes}

@@ -6,7 +6,7 @@ ghost use mathlib.Core.Path.{_≡_};
 ghost use Prim.Native.Nat.{_+_, _≤_};
 ghost use lib.ListN.{length};
 ghost use Rattle.field.specs.Field.{whole};
-ghost use Rattle.field.specs.Put.{spellAll, Written as Put};
+ghost use Rattle.field.specs.Put.{spellAll, Laid};
 ghost use Rattle.field.specs.Send.{Sent};
 ghost use Rattle.field.specs.Told.{told};
 ghost use Rattle.settings.specs.Row.{disk, row, rowBytes};
@@ -180,7 +180,7 @@ fn rows_width(costs: &[u32], loads: &[u32], delays: &[u32]) -> usize
 // Puts a row at a place and answers the place after it.
 fn put_row(cost: u32, load: u32, delay: u32, out: &mut [u8], at: usize) -> usize
     requires { ⌜ at + length (rowBytes (disk cost load delay)) ≤ length (now out) ⌝ }
-    ensures { λ r. ⌜ Put (now (out .entry)) at (rowBytes (disk cost load delay)) (now (out .exit)) r ⌝ }
+    ensures { λ r. ⌜ Laid (now (out .entry)) at (rowBytes (disk cost load delay)) (now (out .exit)) r ⌝ }
 {
     let second = field::put(cost, out, at);
     let third = field::put(load, out, second);
@@ -191,7 +191,7 @@ fn put_row(cost: u32, load: u32, delay: u32, out: &mut [u8], at: usize) -> usize
 fn put_rows(costs: &[u32], loads: &[u32], delays: &[u32], out: &mut [u8], start: usize) -> usize
     requires { ⌜ (length (now loads) ≡ length (now costs)) × (length (now delays) ≡ length (now costs)) ⌝ }
     requires { ⌜ start + length (spellAll rowBytes (rowsOf (now costs) (now loads) (now delays))) ≤ length (now out) ⌝ }
-    ensures { λ r. ⌜ Put (now (out .entry)) start (spellAll rowBytes (rowsOf (now (costs .entry)) (now (loads .entry)) (now (delays .entry)))) (now (out .exit)) r ⌝ }
+    ensures { λ r. ⌜ Laid (now (out .entry)) start (spellAll rowBytes (rowsOf (now (costs .entry)) (now (loads .entry)) (now (delays .entry)))) (now (out .exit)) r ⌝ }
 {
     let mut at = start;
     let mut i = 0;
@@ -205,7 +205,7 @@ fn put_rows(costs: &[u32], loads: &[u32], delays: &[u32], out: &mut [u8], start:
 // Puts the fields before the rows and answers the place after them.
 fn put_head(unit: u32, tenancy: u32, disks: u32, out: &mut [u8]) -> usize
     requires { ⌜ length (headBytes unit tenancy disks) ≤ length (now out) ⌝ }
-    ensures { λ r. ⌜ Put (now (out .entry)) 0 (headBytes unit tenancy disks) (now (out .exit)) r ⌝ }
+    ensures { λ r. ⌜ Laid (now (out .entry)) 0 (headBytes unit tenancy disks) (now (out .exit)) r ⌝ }
 {
     let at = field::put_opening(1, unit, tenancy, out);
     field::put(disks, out, at)

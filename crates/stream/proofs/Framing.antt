@@ -7,9 +7,9 @@ use borrow.Author.Tests.{eq-eqb, ne-eqb, le-leb, lt-leb, leb-true, leb-false}
 use lib.Dec.{leb}
 use lib.ListN.{length, take, drop, length-drop}
 use lib.Seq.{length-take-le}
-use Rattle.number.specs.Decode.{Decoded, value, decode}
-use Rattle.number.specs.Decode.{refused as bad}
-use Rattle.number.proofs.Choice.{pick-true, pick-false, either}
+use Rattle.number.specs.Decode.{Decoded, value, decode, refused as bad}
+use Rattle.basics.proofs.Choice.{pick-true, pick-false}
+use Rattle.basics.proofs.Tests.{by-cases}
 use Rattle.number.proofs.Decode.{decode-within}
 use Rattle.field.specs.declared.Refusal.{Refusal}
 use Rattle.field.specs.Field.{taken, number, inside}
@@ -20,8 +20,7 @@ use Rattle.field.proofs.Sheet.{next, stops}
 use Rattle.field.proofs.Unique.{number-injective}
 use Rattle.field.proofs.Values.{inside-range}
 use Rattle.stream.specs.declared.Span.{Span}
-use Rattle.stream.specs.declared.Span.the-variants.{Part}
-use Rattle.stream.specs.declared.Span.the-variants.{Refused as NoSheet}
+use Rattle.stream.specs.declared.Span.the-variants.{Part, Refused as NoSheet}
 use Rattle.stream.specs.declared.Call.{Call}
 use Rattle.stream.specs.declared.Call.the-variants.{Rent, Settings, Request, Return, Refused}
 use Rattle.stream.specs.Frame.{bytes, sheet, part, Within, Spans}
@@ -39,7 +38,7 @@ ended-within s at v e (bad m) q l h = absurd (let z : _≡_ {A = ℕ} 0 1 = cc i
 pub number-within : (s : List ℕ) (at v e : ℕ) → number s at ≡ got v e → e ≤ length s
 unfolding number
 number-within s at v e h =
-    either (leb at (length s))
+    by-cases (leb at (length s))
     (λ t. ended-within s at v e (decode (drop at s)) refl (leb-true _ _ t) h)
     (λ f. absurd (let x : refused 1 ≡ got v e = sym (number-past s at (leb-false _ _ f)) ∙ h in let z : _≡_ {A = ℕ} 0 1 = cc in omega arith))
 

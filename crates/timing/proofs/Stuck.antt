@@ -15,15 +15,15 @@ use lib.Dec.{eqb, leb, ltb}
 use lib.ListN.{getD}
 use borrow.Author.Tests.{ltb-true, ltb-false, leb-true, le-leb, eqb-true, eqb-false, eq-eqb}
 use Rattle.mask.specs.Has.{has}
-use Rattle.model.specs.Count.{count, gate}
+use Rattle.basics.specs.Count.{count, gate}
 use Rattle.model.specs.Assignment.{reads, Partial, Valid, Within}
 use Rattle.model.specs.Capacity.{capacity, endTime}
 use Rattle.model.specs.Case.{capacityAt}
 use Rattle.model.specs.Shortfall.{touches, size, room, Sub, Short, ShortSet}
 use Rattle.model.specs.Closed.{Closed}
 use Rattle.model.specs.Time.{ShortAt}
-use Rattle.model.proofs.Bool.{by-cases, same-test, gate-true}
-use Rattle.model.proofs.Sum.{sum-ext, sum-term, count-ext, count-most, count-some}
+use Rattle.basics.proofs.Tests.{by-cases, same-test}
+use Rattle.basics.proofs.Count.{gate-true, sum-ext, sum-term, count-ext, count-most, count-some}
 use Rattle.model.proofs.Capacity.{ends-fits, capacity-grows}
 use Rattle.model.proofs.Duality.{unplaced, partial-valid}
 use Rattle.model.proofs.Closed.{exact, least-closed}

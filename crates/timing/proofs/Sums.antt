@@ -13,9 +13,9 @@ use native.Mathlib.Numerals.{add-one}
 use borrow.Author.Tests.{not-true}
 use Rattle.mask.specs.Has.{has}
 use Rattle.mask.proofs.Has.{mask-some}
-use Rattle.model.specs.Count.{bit, sum, count, any}
-use Rattle.model.proofs.Bool.{by-cases, differ, and-left, and-right, and-both, not-here}
-use Rattle.model.proofs.Sum.{any-some, any-none}
+use Rattle.basics.specs.Count.{bit, sum, count, any}
+use Rattle.basics.proofs.Tests.{by-cases, differ, and-left, and-right, and-both, not-here}
+use Rattle.basics.proofs.Count.{any-some, any-none}
 use Rattle.model.specs.Shortfall.{touches}
 use Rattle.places.specs.Places.{holds}
 use Rattle.places.proofs.Masks.{inside-zero}

@@ -4,7 +4,7 @@ use mathlib.Core.Bool.{Bool, not, _&&_}
 use mathlib.Core.List.{List}
 use lib.ListN.{getD}
 use Rattle.mask.specs.Has.{has}
-use Rattle.model.specs.Count.{any}
+use Rattle.basics.specs.Count.{any}
 
 -- whether every disk of m is in x
 unfoldable pub inside : ℕ → ℕ → Bool

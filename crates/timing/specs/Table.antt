@@ -5,7 +5,7 @@ use mathlib.Core.Bool.{true}
 use mathlib.Core.List.{List}
 use lib.ListN.{getD, length}
 use Rattle.mask.specs.Has.{has}
-use Rattle.model.specs.Count.{sum, gate}
+use Rattle.basics.specs.Count.{sum, gate}
 use Rattle.model.specs.Capacity.{capacity}
 use Rattle.model.specs.Case.{Case}
 use Rattle.places.specs.Places.{holds}

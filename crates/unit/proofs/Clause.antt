@@ -11,11 +11,11 @@ use Prim.Native.Nat.{ℕ, _≤_, _<_}
 use native.Mathlib.Omega.{arith}
 use borrow.Author.Tests.{ltb-true, ltb-false}
 use lib.Dec.{ltb}
-use Rattle.number.proofs.Choice.{either, pick-elim}
+use Rattle.basics.proofs.Tests.{by-cases}
+use Rattle.basics.proofs.Choice.{pick-elim}
 use Rattle.field.specs.declared.Written.{Written}
 use Rattle.field.specs.Send.{toldWritten, Sent}
-use Rattle.field.specs.Sheet.{Out, got}
-use Rattle.field.specs.Sheet.{refused as refusedSheet}
+use Rattle.field.specs.Sheet.{Out, got, refused as refusedSheet}
 use Rattle.field.proofs.Sends.{written-injective, sent-unique}
 use Rattle.request.specs.Request.{requestSheet}
 use Rattle.settings.specs.declared.Table.{Table}
@@ -75,10 +75,10 @@ clash n h = absurd (let z : _≡_ {A = ℕ} 0 1 = cc in omega arith)
 accepts : (u : Shelf) (t : ℕ) → rent u t .verdict ≡ accepted → Accepts u t
 unfolding takes refuses
 accepts u t h =
-    either (u .rented)
+    by-cases (u .rented)
     (λ r. clash 12 (sym (ap (λ (o : Outcome). o .verdict) (rent-rented u t r)) ∙ h))
     (λ f.
-    either (ltb (u .last) t)
+    by-cases (ltb (u .last) t)
     (λ l. record { free = f; above = ltb-true _ _ l; after = ap (λ (o : Outcome). o .unit) (rent-taken u t f (ltb-true _ _ l)) })
     (λ l. clash 13 (sym (ap (λ (o : Outcome). o .verdict) (rent-low u t f (ltb-false _ _ l))) ∙ h)))
 
@@ -230,6 +230,6 @@ module _ (u v : Shelf) (k : Alike u v) where
 pub rent-free : (u : Shelf) (t : ℕ) → u .rented ≡ false → (rent u t .verdict ≡ accepted) ⊎ (rent u t .verdict ≡ refused 13)
 unfolding takes refuses
 rent-free u t f =
-    either (ltb (u .last) t)
+    by-cases (ltb (u .last) t)
     (λ l. inl (ap (λ (o : Outcome). o .verdict) (rent-taken u t f (ltb-true _ _ l))))
     (λ l. inr (ap (λ (o : Outcome). o .verdict) (rent-low u t f (ltb-false _ _ l))))

@@ -10,20 +10,20 @@ use borrow.Author.Tests.{ltb-true, ltb-false}
 use lib.Dec.{eqb, ltb}
 use lib.ListN.{length, getD, take, replicate, length-map, length-replicate, List·getD-eq-default}
 use lib.Seq.{getD-take, length-take-le}
-use Rattle.number.proofs.Choice.{either}
+use Rattle.basics.proofs.Tests.{by-cases}
 use Rattle.mask.specs.Has.{has}
-use Rattle.field.specs.Lists.{All, Rises}
-use Rattle.field.proofs.Lists.{replicate-at}
+use Rattle.basics.specs.Lists.{All, Rises, listed}
+use Rattle.basics.proofs.Lists.{replicate-at}
 use Rattle.model.specs.Case.{Case, base, Priced, Schedule, HasTime}
 use Rattle.model.specs.Assignment.{Valid}
-use Rattle.model.specs.Count.{any, sum, count, bit}
+use Rattle.basics.specs.Count.{any, sum, count, bit}
 use Rattle.model.specs.Shortfall.{size}
 use Rattle.model.specs.Time.{members}
 use Rattle.model.specs.Plan.{Optimal}
 use Rattle.model.proofs.Earliest.{time-positive}
 use Rattle.model.proofs.Existence.{plan-short}
 use Rattle.model.proofs.Plan.{no-blocks-plan}
-use Rattle.model.proofs.Sum.{any-ext}
+use Rattle.basics.proofs.Count.{any-ext}
 use Rattle.settings.specs.declared.Row.{Row}
 use Rattle.settings.specs.declared.Table.{Table}
 use Rattle.settings.specs.Row.{disk}
@@ -36,10 +36,9 @@ use Rattle.field.specs.declared.Written.{Written}
 use Rattle.field.specs.Send.{Sent}
 use Rattle.plan.specs.Draft.{planDraft}
 use Rattle.engine.specs.declared.Answer.{Answer}
-use Rattle.engine.specs.Planned.{Planned}
-use Rattle.engine.specs.Planned.{listed as listedFirst}
+use Rattle.engine.specs.Planned.{Planned, listed as listedFirst}
 use Rattle.engine.specs.Spelled.{spelled, Ready}
-use Rattle.unit.specs.Request.{startOf, caseOf, listed, PlanFor, Plannable, Sheeted}
+use Rattle.unit.specs.Request.{startOf, caseOf, PlanFor, Plannable, Sheeted}
 use Rattle.unit.proofs.Rows.{getD-column, take-map, start-small}
 
 -- ---- the case
@@ -189,7 +188,7 @@ module _ (t : Table) (copies disks short : List ℕ) (r : Answer) (p : Plannable
   -- beyond the blocks the buffer was 0
   cut-disk : (b : ℕ) → getD disks b 0 ≡ getD (take (length copies) disks) b 0
   cut-disk b =
-      either (ltb b (length copies))
+      by-cases (ltb b (length copies))
       (λ s. sym (getD-take (length copies) disks b 0 (ltb-true _ _ s)))
       (λ f.
       let l : length copies ≤ b = ltb-false _ _ f in
@@ -239,16 +238,16 @@ module _ (t : Table) (copies disks short : List ℕ) (r : Answer) (p : Plannable
   ranges = record {
     few = omega (arith, count-blocks, p .few);
     time-from =
-        either (ltb 0 (length copies))
+        by-cases (ltb 0 (length copies))
         (λ s. omega (arith, if-some (length (take (length copies) disks)) 1 (omega (arith, count-blocks, ltb-true 0 (length copies) s)), some-time (ltb-true 0 (length copies) s)))
         (λ f. omega (arith, if-none (length (take (length copies) disks)) 1 (omega (arith, count-blocks, ltb-false 0 (length copies) f))));
     time-to =
-        either (ltb 0 (length copies))
+        by-cases (ltb 0 (length copies))
         (λ s. omega (arith, if-some (length (take (length copies) disks)) 1125000000 (omega (arith, count-blocks, ltb-true 0 (length copies) s)), h .time-most))
         (λ f. omega (arith, if-none (length (take (length copies) disks)) 1125000000 (omega (arith, count-blocks, ltb-false 0 (length copies) f)), no-time (omega (arith, ltb-false 0 (length copies) f))));
     disks = all-by 63 (take (length copies) disks) (λ i l. omega (arith, on-disk i (omega (arith, count-blocks)), p .filled .few));
     size-from =
-        either (ltb 0 (length copies))
+        by-cases (ltb 0 (length copies))
         (λ s. omega (arith, if-some (length (take (length copies) disks)) 1 (omega (arith, count-blocks, ltb-true 0 (length copies) s)), some-short (ltb-true 0 (length copies) s), count-short))
         (λ f. omega (arith, if-none (length (take (length copies) disks)) 1 (omega (arith, count-blocks, ltb-false 0 (length copies) f))));
     size-to = omega (arith, count-short, count-blocks, h .set .few);

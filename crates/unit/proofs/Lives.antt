@@ -6,12 +6,11 @@ use Prim.Native.Nat.{ℕ, _≤_, _<_}
 use native.Mathlib.Omega.{arith}
 use borrow.Author.Tests.{lt-ltb, le-ltb, eq-eqb, ne-eqb}
 use lib.Dec.{eqb, ltb}
-use Rattle.number.specs.Choice.{pick}
-use Rattle.number.proofs.Choice.{pick-true, pick-false}
+use Rattle.basics.specs.Choice.{pick}
+use Rattle.basics.proofs.Choice.{pick-true, pick-false}
 use Rattle.field.specs.Refusal.{numberOf}
 use Rattle.field.specs.declared.Refusal.{Refusal}
-use Rattle.field.specs.Sheet.{Out, got}
-use Rattle.field.specs.Sheet.{refused as refusedSheet}
+use Rattle.field.specs.Sheet.{Out, got, refused as refusedSheet}
 use Rattle.settings.specs.declared.Answer.{Answer}
 use Rattle.settings.specs.declared.Answer.the-variants.{Accepted, Refused}
 use Rattle.settings.specs.declared.Settings.{Settings}

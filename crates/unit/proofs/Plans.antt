@@ -8,15 +8,14 @@ use borrow.Author.Tests.{eq-eqb, ne-eqb, eqb-true, eqb-false, leb-true, leb-fals
 use lib.Dec.{eqb, leb, ltb}
 use lib.ListN.{length, getD}
 use lib.Seq.{ext-getD}
-use Rattle.number.proofs.Choice.{either}
-use Rattle.field.specs.Lists.{Rises}
+use Rattle.basics.proofs.Tests.{by-cases, differ}
+use Rattle.basics.specs.Lists.{Rises, listed}
 use Rattle.model.specs.Case.{base}
 use Rattle.model.specs.Order.{Agree}
-use Rattle.model.proofs.Bool.{differ}
 use Rattle.model.proofs.Plan.{plan-unique}
 use Rattle.settings.specs.declared.Table.{Table}
 use Rattle.plan.specs.Plan.{Plan}
-use Rattle.unit.specs.Request.{caseOf, listed, PlanFor}
+use Rattle.unit.specs.Request.{caseOf, PlanFor}
 
 -- ---- a rising list is known by its members
 
@@ -55,14 +54,14 @@ not-sooner floor high x y xs ys r q h l =
 
 same-first : (floor high x y : ℕ) (xs ys : List ℕ) → Rises floor high (x ∷ xs) → Rises floor high (y ∷ ys) → ((b : ℕ) → b ≤ high → listed (x ∷ xs) b ≡ listed (y ∷ ys) b) → x ≡ y
 same-first floor high x y xs ys r q h =
-    either (leb x y)
-    (λ t. either (leb y x) (λ s. omega (arith, leb-true x y t, leb-true y x s)) (λ s. absurd (not-sooner floor high x y xs ys r q h (leb-false y x s))))
+    by-cases (leb x y)
+    (λ t. by-cases (leb y x) (λ s. omega (arith, leb-true x y t, leb-true y x s)) (λ s. absurd (not-sooner floor high x y xs ys r q h (leb-false y x s))))
     (λ f. absurd (not-sooner floor high y x ys xs q r (λ b k. sym (h b k)) (leb-false x y f)))
 
 -- behind a first number that both have
 same-rest : (high x : ℕ) (xs ys : List ℕ) → Rises (x + 1) high xs → Rises (x + 1) high ys → ((b : ℕ) → b ≤ high → listed (x ∷ xs) b ≡ listed (x ∷ ys) b) → (b : ℕ) → b ≤ high → listed xs b ≡ listed ys b
 same-rest high x xs ys r q h b k =
-    either (eqb x b)
+    by-cases (eqb x b)
     (λ t.
     let e : x ≡ b = eqb-true x b t in
     listed-below (x + 1) high xs r b (omega arith) ∙ sym (listed-below (x + 1) high ys q b (omega arith)))
@@ -102,7 +101,7 @@ module _ (t : Table) (copies : List ℕ) (p q : Plan) (v : PlanFor t copies p) (
   same-short : p .short ≡ q .short
   unfolding Agree
   same-short =
-      either (ltb 0 (length copies))
+      by-cases (ltb 0 (length copies))
       (λ s.
       let some : 0 < length copies = ltb-true 0 (length copies) s in
       rising-same 0 (length copies - 1) (p .short) (q .short)

@@ -6,10 +6,9 @@ use Prim.Native.Nat.{ℕ, _≤_, _<_}
 use native.Mathlib.Omega.{arith}
 use borrow.Author.Tests.{ltb-true}
 use lib.Dec.{eqb, ltb}
-use Rattle.number.specs.Choice.{pick}
-use Rattle.number.proofs.Choice.{pick-elim}
-use Rattle.field.specs.Sheet.{Out, got}
-use Rattle.field.specs.Sheet.{refused as refusedSheet}
+use Rattle.basics.specs.Choice.{pick}
+use Rattle.basics.proofs.Choice.{pick-elim}
+use Rattle.field.specs.Sheet.{Out, got, refused as refusedSheet}
 use Rattle.settings.specs.declared.Table.{Table}
 use Rattle.settings.specs.Sheet.{settingsSheet}
 use Rattle.settings.specs.Table.{noTable, Filled}

@@ -6,9 +6,8 @@ use Prim.Native.Nat.{ℕ}
 use mathlib.Core.Bool.{Bool, _&&_}
 use mathlib.Core.List.{List}
 use lib.Dec.{eqb, ltb}
-use Rattle.number.specs.Choice.{pick}
-use Rattle.field.specs.Sheet.{Out, got}
-use Rattle.field.specs.Sheet.{refused as refusedSheet}
+use Rattle.basics.specs.Choice.{pick}
+use Rattle.field.specs.Sheet.{Out, got, refused as refusedSheet}
 use Rattle.settings.specs.declared.Table.{Table}
 use Rattle.settings.specs.Sheet.{settingsSheet}
 use Rattle.unit.specs.declared.Unit.{Unit}

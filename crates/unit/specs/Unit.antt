@@ -1,7 +1,7 @@
 -- A unit: its number, the last tenancy accepted, whether it is rented, N and 64 table rows.
 use Prim.Native.Nat.{ℕ}
 use mathlib.Core.Bool.{Bool, true, false}
-use Rattle.number.specs.Choice.{pick}
+use Rattle.basics.specs.Choice.{pick}
 use Rattle.settings.specs.declared.Table.{Table}
 use Rattle.settings.specs.Table.{noTable}
 use Rattle.unit.specs.declared.Unit.{Unit}

@@ -7,8 +7,9 @@ use native.Mathlib.Omega.{arith}
 use lib.Dec.{eqb}
 use lib.ListN.{getD}
 use Rattle.model.specs.Case.{Case, base}
-use Rattle.model.specs.Count.{any}
-use Rattle.model.specs.Figures.{isOn, asked}
+use Rattle.basics.specs.Count.{any}
+use Rattle.basics.specs.Lists.{listed}
+use Rattle.model.specs.Figures.{asked}
 use Rattle.model.specs.Plan.{Optimal}
 use Rattle.engine.specs.Planned.{listed, Planned}
 use Rattle.engine.specs.Spelled.{spelled}
@@ -49,8 +50,8 @@ same-case =
     ap₂ (λ (s : ℕ → ℕ) (h : ℕ → ℕ → Bool). record { disks = 3; blocks = 3; start = s; cost = λ d. getD costs d 0; copy = h })
     (fun-ext same-starts) (fun-ext (λ b. fun-ext (same-copies copies-p5 b)))
 
-same-set : (b : ℕ) → isOn (0 ∷ []) b ≡ listed short 1 b
-unfolding isOn listed any
+same-set : (b : ℕ) → listed (0 ∷ []) b ≡ listed short 1 b
+unfolding listed listed any
 same-set b = or-false (eqb b 0) ∙ swap 0 b
 
 -- ---- plan

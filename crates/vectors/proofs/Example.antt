@@ -9,17 +9,16 @@ use Rattle.model.specs.Case.{Case, base}
 use Rattle.model.specs.Figures.{asked}
 use Rattle.model.specs.Plan.{Optimal}
 use Rattle.field.specs.declared.Written.the-variants.{Length}
-use Rattle.field.specs.Lists.{All, Rises}
+use Rattle.basics.specs.Lists.{All, Rises, listed}
 use Rattle.settings.specs.Table.{table, disksOf, costs, loads, delays}
-use Rattle.unit.specs.Request.{caseOf, listed, PlanFor, Sheeted, Answered}
+use Rattle.unit.specs.Request.{caseOf, PlanFor, Sheeted, Answered}
 use Rattle.console.specs.Bench.{benchInput, Line}
 use Rattle.stream.specs.Call.{asked as askedCall}
 use Rattle.service.specs.Shelf.{Serves}
 use Rattle.vectors.specs.Text.{bytes, ascii}
 use Rattle.vectors.proofs.Opened.{plan-opened, unit-opened, program-opened}
 use Rattle.vectors.proofs.Settings.{three}
-use Rattle.vectors.proofs.Request.{copies}
-use Rattle.vectors.proofs.Request.{example as request}
+use Rattle.vectors.proofs.Request.{copies, example as request}
 use Rattle.vectors.proofs.Plan.{plan}
 use Rattle.vectors.proofs.Unit.{ready}
 use Rattle.vectors.proofs.Program.{example as input}

@@ -3,7 +3,7 @@ use mathlib.Core.Path.{_≡_, refl}
 use mathlib.Core.List.{[], _∷_, map}
 use Rattle.field.specs.declared.Refusal.the-variants.{SheetEnds, BadNumber, WrongKind, WrongUnit, WrongTenancy, OutOfRange, NoCopy, NotRising, BytesFollow, NoSettings, NoRoom, Rented, NotAbove, NotTheTenant}
 use Rattle.field.specs.Field.{number, exactly, tenancy, inside, rising, end}
-use Rattle.field.specs.Put.{Put}
+use Rattle.field.specs.Put.{PutOne}
 use Rattle.field.specs.Refusal.{numberOf}
 use Rattle.field.specs.Sheet.{got, refused}
 use Rattle.vectors.specs.Text.{bytes}
@@ -83,6 +83,6 @@ finish-extra = refl
 -- ---- put
 
 -- 300 at place 1, all else as it was
-put-300 : Put 300 (bytes "AA BB CC DD") 1 3 (bytes "AA AC 02 DD")
+put-300 : PutOne 300 (bytes "AA BB CC DD") 1 3 (bytes "AA AC 02 DD")
 unfolding field-opened
 put-300 = record { place = refl; held = refl }

@@ -2,7 +2,7 @@
 use mathlib.Core.Path.{_≡_, refl}
 use mathlib.Core.List.{[], _∷_, map}
 use Rattle.number.specs.Decode.{value, refused, decode}
-use Rattle.number.specs.Encode.{encode, widthOf, Wrote}
+use Rattle.number.specs.Encode.{encode, widthOf, WroteNumber}
 use Rattle.vectors.specs.Text.{bytes}
 use Rattle.vectors.proofs.Opened.{number-opened}
 
@@ -68,6 +68,6 @@ unfolding number-opened
 spelled = refl
 
 -- without room nothing has changed
-write-no-room : Wrote 128 (bytes "AA") 0 (bytes "AA")
+write-no-room : WroteNumber 128 (bytes "AA") 0 (bytes "AA")
 unfolding number-opened
 write-no-room = record { count = refl; left = refl }

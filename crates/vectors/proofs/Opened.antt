@@ -1,10 +1,11 @@
 -- What is opened so that a worked answer computes, crate by crate: each name stands for the definitions on its line.
-use Rattle.number.specs.Choice.{pick}
+use Rattle.basics.specs.Choice.{pick}
 use Rattle.number.specs.Decode.{under, more, decode}
 use Rattle.number.specs.Encode.{encodeBy, encode, widthOf, fits, written, putFirst}
 use Rattle.field.specs.Sheet.{andThen, _>>=_, _>>_, pure, require, times}
 use Rattle.field.specs.Field.{taken, number, exactly, tenancy, inside, rising, ascending, end, whole, opening}
-use Rattle.field.specs.Put.{spellAll, paste, hasRoom, openingBytes}
+use Rattle.field.specs.Put.{spellAll, hasRoom, openingBytes}
+use Rattle.basics.specs.Buffer.{paste, over}
 use Rattle.field.specs.Refusal.{numberOf}
 use Rattle.field.specs.Send.{toldWritten, answerTo, leftBy}
 use Rattle.settings.specs.Draft.{rowsOf, headBytes, sheetBytes, equalLengths, settingsDraft}
@@ -17,10 +18,9 @@ use Rattle.mask.specs.Count.{bit, members}
 use Rattle.request.specs.Disks.{maskOf, disksBelow, disksOf}
 use Rattle.request.specs.Draft.{blockBytes, headingBytes, requestBytes, checked, requestDraft}
 use Rattle.request.specs.Request.{lastDisk, block, heading, requestSheet}
-use Rattle.plan.specs.Draft.{planNumbers, planBytes, planDraft}
-use Rattle.plan.specs.Draft.{counted as countedPlan}
+use Rattle.plan.specs.Draft.{planNumbers, planBytes, planDraft, counted as countedPlan}
 use Rattle.plan.specs.Plan.{ifAny, timeOf, sizeOf, listsOf, planFields, planSheet}
-use Rattle.plan.specs.Receive.{roomFor, settle, heads, over, disksLeft, shortLeft}
+use Rattle.plan.specs.Receive.{roomFor, settle, heads, disksLeft, shortLeft}
 use Rattle.plan.specs.Told.{toldPlan}
 use Rattle.unit.specs.Life.{takes, refuses, rent, settled, set, giveBack}
 use Rattle.unit.specs.Request.{Replied}
@@ -30,14 +30,11 @@ use Rattle.desk.specs.Numbers.{valueOf, bytesOf, firstNumbers, numbers, broken}
 use Rattle.desk.specs.Packed.{packPlan, readerAnswer}
 use Rattle.line.specs.Text.{digit, digitsBy, decimal, spaced, pair, hex}
 use Rattle.line.specs.Line.{feed, word-returned, word-refused, word-stopped, word-plan, bar, spoken, planText, planLine, sheetLine}
-use Rattle.stream.specs.Frame.{sheet}
-use Rattle.stream.specs.Frame.{bytes as framed}
+use Rattle.stream.specs.Frame.{sheet, bytes as framed}
 use Rattle.stream.specs.Call.{ofTenancy, ofSettings, ofRequest, none, behind, asked}
-use Rattle.console.specs.Bench.{judge, accept, close, hire, benchInput, Replies, Asks, Line}
-use Rattle.console.specs.Bench.{settle as settleInput}
+use Rattle.console.specs.Bench.{judge, accept, close, hire, benchInput, Replies, Asks, Line, settle as settleInput}
 use Rattle.service.specs.Shelf.{verdictLine, sentLine, stopLine, Sheets, Does, Serves}
-use Rattle.vectors.specs.Text.{bytes, ascii}
-use Rattle.vectors.specs.Text.{digit as hexDigit}
+use Rattle.vectors.specs.Text.{bytes, ascii, digit as hexDigit}
 
 unfoldable pub number-opened : Type 0
 unfolding pick under more decode encodeBy encode widthOf fits written putFirst bytes hexDigit

@@ -3,11 +3,10 @@
 --     ascii     "plan 7": a byte for each character
 use Prim.Native.Nat.{ℕ, _+_, _-_, _*_}
 use Prim.Native.Char.{Char, code}
-use Prim.Native.String.{String}
-use Prim.Native.String.{[] as none, _∷_ as _then_}
+use Prim.Native.String.{String, [] as none, _∷_ as _then_}
 use mathlib.Core.List.{List, [], _∷_}
 use lib.Dec.{ltb}
-use Rattle.number.specs.Choice.{pick}
+use Rattle.basics.specs.Choice.{pick}
 
 -- 0 to 9, A to F
 unfoldable pub digit : Char → ℕ

@@ -1,7 +1,8 @@
 -- The number writer works in `&mut out[at..]`: `put-of`.
 use borrow.Author.Needs.{needs}
 use native.Mathlib.Omega.{arith}
-use Rattle.field.proofs.Puts.{put-past, put-of, wrote-fits}
+use Rattle.field.proofs.Puts.{put-past, put-of}
+use Rattle.number.proofs.Encode.{wrote-fits}
 use Rattle.field.proofs.put.Statement.{statement}
 use Rattle.field.proofs.put.Tie as tie
 

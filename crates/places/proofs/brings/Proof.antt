@@ -3,7 +3,7 @@ use mathlib.Core.Path.{refl, sym, _∙_}
 use mathlib.Core.Logic.{inl, inr, ⊎-elim}
 use mathlib.Core.Bool.{true}
 use Rattle.mask.proofs.Bits.{has-shr}
-use Rattle.model.proofs.Bool.{differ}
+use Rattle.basics.proofs.Tests.{differ}
 use Rattle.places.proofs.Masks.{brings-none, brings-by}
 use borrow.Author.Needs.{needs}
 use native.Mathlib.Omega.{arith}

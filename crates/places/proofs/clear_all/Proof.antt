@@ -5,7 +5,7 @@ use lib.Dec.{eqb}
 use lib.ListN.{getD, set, length, length-set}
 use lib.Seq.{getD-set-same, getD-set-other}
 use borrow.Author.Tests.{eqb-true, eqb-false}
-use Rattle.model.proofs.Bool.{by-cases}
+use Rattle.basics.proofs.Tests.{by-cases}
 use Rattle.places.proofs.Steps.{placed-none}
 use borrow.Author.Needs.{needs}
 use native.Mathlib.Omega.{arith}

@@ -2,7 +2,7 @@
 use mathlib.Core.Path.{_≡_, subst}
 use lib.Dec.{ltb}
 use borrow.Author.Tests.{ltb-true, ltb-false}
-use Rattle.model.proofs.Bool.{by-cases}
+use Rattle.basics.proofs.Tests.{by-cases}
 use Prim.Native.Nat.{ℕ, _≤_, _<_, _-_}
 use Rattle.places.specs.Search.{Settled}
 use borrow.Author.Needs.{needs}

@@ -3,7 +3,7 @@ use Prim.Native.Nat.{_<_}
 use mathlib.Core.Path.{sym, subst, _∙_}
 use mathlib.Core.Bool.{Bool}
 use Rattle.mask.specs.Has.{has}
-use Rattle.model.proofs.Bool.{and-left, and-right}
+use Rattle.basics.proofs.Tests.{and-left, and-right}
 use Rattle.places.specs.Outcome.{Sought}
 use Rattle.places.proofs.Turns.{Seeks, rest, seeks-start, seeks-wrap, more-steps, none-free, seeks-mark, seeks-way, seeks-stuck, wrap-less, mark-less}
 use borrow.Author.Needs.{needs}

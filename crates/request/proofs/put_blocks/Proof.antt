@@ -1,13 +1,10 @@
 -- `put_blocks` meets its contract. The invariant: the bytes of the first i blocks were written, and nothing else.
 use borrow.Author.Needs.{needs}
 use native.Mathlib.Omega.{arith}
-use Rattle.field.proofs.Puts.{written-length}
-use Rattle.field.proofs.Puts.{spell-room}
+use Rattle.field.proofs.Puts.{laid-length, spell-room, laid-none}
 use Rattle.request.proofs.Writing.{blocks-more, blocks-all}
 use Rattle.request.specs.Draft.{blockBytes}
-use Rattle.field.proofs.Puts.{written-none}
-use Rattle.field.specs.Put.{spellAll}
-use Rattle.field.specs.Put.{Written as Wrote}
+use Rattle.field.specs.Put.{spellAll, Laid}
 use lib.ListN.{length, take}
 use Prim.Native.Nat.{_+_, _-_, _≤_}
 use Rattle.request.proofs.put_blocks.Statement.{statement}
@@ -15,14 +12,14 @@ use Rattle.request.proofs.put_blocks.Tie as tie
 
 abbrev Inv-loop : tie.InvT-loop
 Inv-loop copies out₀ at p₀ i₀ out p i = (i ≤ length copies) × (at + length (spellAll blockBytes copies) ≤ length out₀)
-    × Wrote out₀ at (spellAll blockBytes (take i copies)) out p
+    × Laid out₀ at (spellAll blockBytes (take i copies)) out p
 
 abbrev μ-loop : tie.MeasureT-loop
 μ-loop copies out₀ at p₀ i₀ out p i = length copies - i
 
 loop-holds : tie.Need-loop-holds Inv-loop μ-loop
 unfolding spellAll
-loop-holds c = (omega arith, c .before .before .pre, written-none _ _ (omega (arith, c .before .before .pre)))
+loop-holds c = (omega arith, c .before .before .pre, laid-none _ _ (omega (arith, c .before .before .pre)))
 
 put-block-requires : tie.Need-put-block-requires Inv-loop μ-loop
 put-block-requires c κs = spell-room blockBytes _ _ 0 (c .before .before .loop-test .taken) (c .before .before .before .loop .inv .2)
@@ -38,7 +35,7 @@ loop-again c = (
 )
 
 same-length : tie.Need-same-length Inv-loop μ-loop
-same-length c = written-length (c .before .loop .inv .2)
+same-length c = laid-length (c .before .loop .inv .2)
 
 returns : tie.Need-returns Inv-loop μ-loop
 returns c = blocks-all _ (c .before .loop .i) (c .before .loop .inv .2) (omega (arith, c .before .loop .inv .0))

@@ -1,12 +1,10 @@
 -- `put_disks` meets its contract. The invariant: the bytes of the disks below d were written, and nothing else.
 use borrow.Author.Needs.{needs}
 use native.Mathlib.Omega.{arith}
-use Rattle.field.proofs.Puts.{written-as, written-length}
+use Rattle.field.proofs.Puts.{laid-as, laid-length, laid-none}
 use Rattle.request.proofs.Writing.{disk-in, disk-out, disks-all}
 use Rattle.request.specs.Disks.{disksBelow, disksOf}
-use Rattle.field.proofs.Puts.{written-none}
-use Rattle.field.specs.Put.{spellAll}
-use Rattle.field.specs.Put.{Written as Wrote}
+use Rattle.field.specs.Put.{spellAll, Laid}
 use Rattle.number.specs.Encode.{encode}
 use lib.ListN.{length}
 use mathlib.Core.Logic.{⊎-elim}
@@ -17,34 +15,34 @@ use Rattle.request.proofs.put_disks.Tie as tie
 
 abbrev Inv-loop : tie.InvT-loop
 Inv-loop m out₀ at p₀ d₀ out p d = (d ≤ 64) × (at + length (spellAll encode (disksOf m)) ≤ length out₀)
-    × Wrote out₀ at (spellAll encode (disksBelow d m)) out p
+    × Laid out₀ at (spellAll encode (disksBelow d m)) out p
 
 abbrev μ-loop : tie.MeasureT-loop
 μ-loop m out₀ at p₀ d₀ out p d = 64 - d
 
 loop-holds : tie.Need-loop-holds Inv-loop μ-loop
 unfolding disksBelow spellAll
-loop-holds c = (omega arith, c .before .pre, written-none _ _ (omega arith))
+loop-holds c = (omega arith, c .before .pre, laid-none _ _ (omega arith))
 
 loop-again : tie.Need-loop-again Inv-loop μ-loop
 loop-again c = ⊎-elim
     (λ w. (
       omega arith,
       c .before .before .before .loop .inv .1,
-      written-as (w .5) (w .6)
+      laid-as (w .5) (w .6)
           (disk-in _ _ (c .before .before .before .loop .inv .2) (sym (c .before .test .ensures) ∙ w .0 .taken)
           (c .before .before .loop-test .taken) (c .before .before .before .loop .inv .1) (w .2 .ensures)),
     ))
     (λ w. (
       omega arith,
       c .before .before .before .loop .inv .1,
-      written-as (w .1) (w .2)
+      laid-as (w .1) (w .2)
           (disk-out _ _ (c .before .before .before .loop .inv .2) (sym (c .before .test .ensures) ∙ w .0 .left)),
     ))
     (c .if1 .came)
 
 same-length : tie.Need-same-length Inv-loop μ-loop
-same-length c = written-length (c .before .loop .inv .2)
+same-length c = laid-length (c .before .loop .inv .2)
 
 returns : tie.Need-returns Inv-loop μ-loop
 returns c = disks-all _ _ (c .before .loop .inv .2) (omega arith)

@@ -3,7 +3,7 @@ use Prim.Native.Nat.{_-_}
 use borrow.Author.Needs.{needs}
 use lib.ListN.{length}
 use Rattle.settings.specs.Draft.{rowsOf}
-use Rattle.field.proofs.Puts.{written-length}
+use Rattle.field.proofs.Puts.{laid-length}
 use Rattle.settings.proofs.Writing.{RowsPut, puts-start, puts-room, puts-step, puts-done}
 use Rattle.settings.proofs.Rows.{rows-below, rows-end, row-of}
 use Rattle.settings.proofs.put_rows.Statement.{statement}
@@ -49,7 +49,7 @@ loop-again : tie.Need-loop-again Inv-loop μ-loop
 loop-again c = puts-step (c .before .before .before .before .before .before .before .before .loop .inv) (rows-below _ _ _ (c .before .before .before .before .before .before .before .before .before .before .before .before .before .pre .0 .0) (c .before .before .before .before .before .before .before .before .before .before .before .before .before .pre .0 .1) (c .before .before .before .before .before .before .before .loop-test .taken)) (row-of _ _ _ _ (c .before .before .before .before .before .before .before .before .before .before .before .before .before .pre .0 .0) (c .before .before .before .before .before .before .before .before .before .before .before .before .before .pre .0 .1) (c .before .before .before .before .before .before .before .loop-test .taken)) (c .before .before .put-row .ensures)
 
 same-length : tie.Need-same-length Inv-loop μ-loop
-same-length c = written-length (c .before .loop .inv .done)
+same-length c = laid-length (c .before .loop .inv .done)
 
 returns : tie.Need-returns Inv-loop μ-loop
 returns c = puts-done (c .before .loop .inv) (rows-end _ _ _ (c .before .before .before .before .before .before .pre .0 .0) (c .before .before .before .before .before .before .pre .0 .1) (c .loop-test .left))

@@ -4,8 +4,8 @@ use native.Mathlib.Omega.{arith}
 use borrow.Author.Needs.{needs}
 use borrow.Author.Tests.{le-leb, lt-leb}
 use Rattle.number.proofs.Encode.{width-bounds}
-use Rattle.number.proofs.Choice.{pick-true}
-use Rattle.number.specs.Choice.{pick}
+use Rattle.basics.proofs.Choice.{pick-true}
+use Rattle.basics.specs.Choice.{pick}
 use Rattle.settings.specs.Parts.{rowWidth}
 use Rattle.settings.specs.Row.{disk, inRange}
 use Rattle.settings.proofs.Ranges.{range-in, row-length}

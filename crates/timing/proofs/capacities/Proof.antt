@@ -6,7 +6,7 @@ use lib.ListN.{getD, set, length, length-set}
 use lib.Seq.{getD-set-same, getD-set-other}
 use borrow.Author.Tests.{eqb-true, eqb-false}
 use Rattle.model.specs.Capacity.{capacity}
-use Rattle.model.proofs.Bool.{by-cases}
+use Rattle.basics.proofs.Tests.{by-cases}
 use borrow.Author.Needs.{needs}
 use native.Mathlib.Omega.{arith}
 use Rattle.timing.proofs.capacities.Statement.{statement}

@@ -2,11 +2,11 @@
 use Prim.Native.Nat.{ℕ, _≤_, _-_}
 use mathlib.Core.Path.{_≡_, ap, sym, _∙_}
 use mathlib.Core.Logic.{⊎-elim}
-use Rattle.model.specs.Count.{count}
+use Rattle.basics.specs.Count.{count}
 use Rattle.model.specs.Shortfall.{size}
-use Rattle.model.proofs.Bool.{bit-true, bit-false}
+use Rattle.basics.proofs.Count.{bit-true, bit-false, count-next}
 use Rattle.timing.specs.Among.{among}
-use Rattle.timing.proofs.Sums.{count-next, count-zero, inside-true, inside-false}
+use Rattle.timing.proofs.Sums.{count-zero, inside-true, inside-false}
 use borrow.Author.Needs.{needs}
 use native.Mathlib.Omega.{arith}
 use Rattle.timing.proofs.count_among.Statement.{statement}

@@ -1,14 +1,14 @@
 -- `timing::room_at` meets its contract.
 use lib.ListN.{getD}
 use Rattle.mask.specs.Has.{has}
-use Rattle.model.specs.Count.{gate}
+use Rattle.basics.specs.Count.{gate}
 use Rattle.model.specs.Capacity.{capacity}
 use Prim.Native.Nat.{ℕ, _≤_, _-_, _*_}
 use mathlib.Core.Path.{_≡_, ap, sym, _∙_}
 use mathlib.Core.Logic.{⊎-elim}
-use Rattle.model.proofs.Bool.{gate-true, gate-false}
+use Rattle.basics.proofs.Count.{gate-true, gate-false, sum-next}
 use Rattle.timing.specs.Table.{roomOf}
-use Rattle.timing.proofs.Sums.{sum-next, sum-none}
+use Rattle.timing.proofs.Sums.{sum-none}
 use borrow.Author.Needs.{needs}
 use native.Mathlib.Omega.{arith}
 use Rattle.timing.proofs.room_at.Statement.{statement}
