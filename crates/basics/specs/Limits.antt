@@ -3,6 +3,7 @@
 --     costMost, loadMost, delayMost            of one disk
 --     startMost, timeMost                      when a disk starts; the time of a plan
 --     settingsMost, requestMost, planMost      the longest sheets, in bytes
+--     refusalsMost                             the greatest number of a refusal
 use Prim.Native.Nat.{ℕ}
 
 abbrev pub disksMost : ℕ
@@ -37,3 +38,6 @@ requestMost = 9229
 
 abbrev pub planMost : ℕ
 planMost = 2964
+
+abbrev pub refusalsMost : ℕ
+refusalsMost = 14

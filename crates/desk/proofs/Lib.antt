@@ -1,8 +1,3 @@
-pub mod Numbers
-pub mod Over
-pub mod Filling
-pub mod Tests
-pub mod Packed
 pub mod Writing
 pub mod Reading
 pub mod Unique

@@ -30,10 +30,10 @@ use Rattle.plan.specs.Told.{toldPlan}
 use Rattle.plan.proofs.Bounds.{any-most}
 use Rattle.basics.proofs.Buffer.{over-front}
 use Rattle.plan.proofs.RoundTrip.{sheet-exact}
-use Rattle.desk.specs.Numbers.{bytesOf, numbers, Room}
-use Rattle.desk.specs.Packed.{readerAnswer, Small}
+use Rattle.lent.specs.Numbers.{bytesOf, numbers, Room}
+use Rattle.lent.specs.Packed.{readerAnswer, FitsBits}
 use Rattle.desk.specs.Desk.{planOf, setLeft, PlanRead}
-use Rattle.desk.proofs.Numbers.{numbers-length}
+use Rattle.lent.proofs.Numbers.{numbers-length}
 
 -- ---- how large the values of an accepted sheet are
 
@@ -67,20 +67,25 @@ leb-same m x y f g =
     (λ t. le-leb m x (g (leb-true _ _ t)) ∙ sym t)
     (λ n. by-cases (leb m x) (λ t. t ∙ sym (le-leb m y (f (leb-true _ _ t)))) (λ k. k ∙ sym n))
 
-settle-same : (o : Out Plan) (disks a b : List ℕ) → ((p : Plan) (e : ℕ) → o ≡ got p e → leb (length (p .short)) (length a) ≡ leb (length (p .short)) (length b)) → settle o disks a ≡ settle o disks b
+settle-same : (o : Out Plan) (disks a b : List ℕ)
+    → ((p : Plan) (e : ℕ) → o ≡ got p e → leb (length (p .short)) (length a) ≡ leb (length (p .short)) (length b))
+    → settle o disks a ≡ settle o disks b
 unfolding settle roomFor
 settle-same (refused n) disks a b h = refl
-settle-same (got p e) disks a b h = ap (λ (x : Bool). pick (leb (length (p .disks)) (length disks) && x) (got p e) (refused 11)) (h p e refl)
+settle-same (got p e) disks a b h =
+    ap (λ (x : Bool). pick (leb (length (p .disks)) (length disks) && x) (got p e) (refused 11)) (h p e refl)
 
 -- a list of 1,024 numbers has room for as many as any longer one
-pub room-same : (unit t : ℕ) (s disks short set : List ℕ) → Bytes s → Room (length set / 2) (length short) → settle (planSheet unit t s 0) disks short ≡ planOf unit t s disks set
+pub room-same : (unit t : ℕ) (s disks short set : List ℕ) → Bytes s → Room (length set / 2) (length short)
+    → settle (planSheet unit t s 0) disks short ≡ planOf unit t s disks set
 unfolding planOf
 room-same unit t s disks short set b r =
     settle-same (planSheet unit t s 0) disks short (numbers 2 set)
     (λ p e h.
     let k : length (p .short) ≤ 1024 = plan-packable unit t s p e b h .size in
     let n : length (numbers 2 set) ≡ length set / 2 = numbers-length 2 set in
-    leb-same (length (p .short)) (length short) (length (numbers 2 set)) (λ x. omega (arith, r .below)) (λ x. r .enough (length (p .short)) k (omega arith)))
+    leb-same (length (p .short)) (length short) (length (numbers 2 set)) (λ x. omega (arith, r .below))
+    (λ x. r .enough (length (p .short)) k (omega arith)))
 
 -- what was settled stands on the sheet
 settled-got : (o : Out Plan) (disks short : List ℕ) (p : Plan) (e : ℕ) → settle o disks short ≡ got p e → o ≡ got p e
@@ -107,13 +112,15 @@ pub record Plans (unit t : ℕ) (s disks short : List ℕ) (h : Head) : Type 0 w
   pub time : h .time ≡ plan .time
   pub size : h .size ≡ length (plan .short)
 
-settled : (unit t : ℕ) (s disks short : List ℕ) (h : Head) (n : ℕ) (o : Out Plan) → Bytes s → planSheet unit t s 0 ≡ o → got h n ≡ heads (settle o disks short) → Plans unit t s disks short h
+settled : (unit t : ℕ) (s disks short : List ℕ) (h : Head) (n : ℕ) (o : Out Plan) → Bytes s → planSheet unit t s 0 ≡ o
+    → got h n ≡ heads (settle o disks short) → Plans unit t s disks short h
 unfolding settle roomFor heads
 settled unit t s disks short h n (refused m) b q w = absurd (let o : _≡_ {A = ℕ} 0 1 = cc in omega arith)
 settled unit t s disks short h n (got p e) b q w =
     by-cases (leb (length (p .disks)) (length disks) && leb (length (p .short)) (length short))
     (λ y.
-    let x : pick (leb (length (p .disks)) (length disks) && leb (length (p .short)) (length short)) (got p e) (refused 11) ≡ got p e = pick-true _ _ y in
+    let x : pick (leb (length (p .disks)) (length disks) && leb (length (p .short)) (length short)) (got p e) (refused 11)
+    ≡ got p e = pick-true _ _ y in
     let v : got h n ≡ got (record { blocks = length (p .disks); time = p .time; size = length (p .short) }) e = w ∙ ap heads x in
     let i : h ≡ record { blocks = length (p .disks); time = p .time; size = length (p .short) } = cc in
     record {
@@ -131,8 +138,8 @@ settled unit t s disks short h n (got p e) b q w =
     absurd (let o : _≡_ {A = ℕ} 0 1 = cc in omega arith))
 
 -- what is packed has room in its bits
-pub plans-small : {unit t : ℕ} {s disks short : List ℕ} {h : Head} → Plans unit t s disks short h → Small (Accepted h)
-unfolding Small
+pub plans-small : {unit t : ℕ} {s disks short : List ℕ} {h : Head} → Plans unit t s disks short h → FitsBits (Accepted h)
+unfolding FitsBits
 plans-small p = (omega (arith, p .blocks, p .range .blocks), omega (arith, p .time, p .range .time), omega (arith, p .size, p .range .size))
 
 -- a part of so many numbers
@@ -140,7 +147,9 @@ pub room-part : (xs : List ℕ) {n k : ℕ} → Room n k → k ≤ length xs →
 room-part xs {n} {k} r h = subst (Room n) (sym (length-take-le k xs h)) r
 
 -- the short set has room where it was read and where it goes
-pub pairs-fit : (zeros ys set : List ℕ) (k : ℕ) {unit t : ℕ} {s disks : List ℕ} {h : Head} → Plans unit t s disks (take k zeros) h → Room (length set / 2) k → k ≤ length zeros → length ys ≡ length (take k zeros) → (h .size ≤ length (ys ++ drop k zeros)) × (2 * h .size ≤ length set)
+pub pairs-fit : (zeros ys set : List ℕ) (k : ℕ) {unit t : ℕ} {s disks : List ℕ} {h : Head} → Plans unit t s disks (take k zeros) h
+    → Room (length set / 2) k → k ≤ length zeros → length ys ≡ length (take k zeros) → (h .size ≤ length (ys ++ drop k zeros))
+    × (2 * h .size ≤ length set)
 pairs-fit zeros ys set k p r l e =
     let n : length (take k zeros) ≡ k = length-take-le k zeros l in
     (omega (arith, length-append ys (drop k zeros), p .size, p .room), omega (arith, p .size, p .room, r .below))
@@ -151,13 +160,16 @@ unfolding heads setLeft
 unset (got p e) set h = absurd (let o : _≡_ {A = ℕ} 0 1 = cc in omega arith)
 unset (refused m) set h = refl
 
-module _ {unit t : ℕ} {s disks short : List ℕ} {a : Answer} {disks′ short′ : List ℕ} (b : Bytes s) (g : Received (planSheet unit t s 0) (length s) disks short a disks′ short′) where
+module _ {unit t : ℕ} {s disks short : List ℕ} {a : Answer} {disks′ short′ : List ℕ} (b : Bytes s)
+    (g : Received (planSheet unit t s 0) (length s) disks short a disks′ short′) where
   pub accepted : {h : Head} → a ≡ Accepted h → Plans unit t s disks short h
   unfolding toldPlan
   accepted {h} e = settled unit t s disks short h (length s) (planSheet unit t s 0) b refl (ap (toldPlan (length s)) (sym e) ∙ g .answer)
 
   -- the two lists and the answer
-  pub read-accepted : (set blocks : List ℕ) {h : Head} {r : ℕ} {after : List ℕ} → a ≡ Accepted h → Room (length set / 2) (length short) → take (length short) blocks ≡ short′ → r ≡ readerAnswer (toldPlan (length s) (Accepted h)) → after ≡ over (spellAll (bytesOf 2) (take (h .size) blocks)) set → PlanRead unit t s disks set r disks′ after
+  pub read-accepted : (set blocks : List ℕ) {h : Head} {r : ℕ} {after : List ℕ} → a ≡ Accepted h → Room (length set / 2) (length short)
+      → take (length short) blocks ≡ short′ → r ≡ readerAnswer (toldPlan (length s) (Accepted h))
+      → after ≡ over (spellAll (bytesOf 2) (take (h .size) blocks)) set → PlanRead unit t s disks set r disks′ after
   unfolding toldPlan setLeft shortLeft
   read-accepted set blocks {h} {r} {after} e room held answer left =
       let p : Plans unit t s disks short h = accepted e in
@@ -170,10 +182,12 @@ module _ {unit t : ℕ} {s disks short : List ℕ} {a : Answer} {disks′ short�
       record {
         answer = answer ∙ ap readerAnswer (ap (toldPlan (length s)) (sym e) ∙ g .answer ∙ ap heads same);
         blocks = g .blocks ∙ ap (λ (o : Out Plan). disksLeft o disks) same;
-        members = left ∙ ap (λ (x : List ℕ). over (spellAll (bytesOf 2) x) set) first ∙ ap (λ (o : Out Plan). setLeft o set) (sym (p .is) ∙ same);
+        members = left ∙ ap (λ (x : List ℕ). over (spellAll (bytesOf 2) x) set) first
+            ∙ ap (λ (o : Out Plan). setLeft o set) (sym (p .is) ∙ same);
       }
 
-  pub read-refused : (set : List ℕ) {e : Refusal} {r : ℕ} → a ≡ Refused e → Room (length set / 2) (length short) → r ≡ numberOf e → PlanRead unit t s disks set r disks′ set
+  pub read-refused : (set : List ℕ) {e : Refusal} {r : ℕ} → a ≡ Refused e → Room (length set / 2) (length short) → r ≡ numberOf e
+      → PlanRead unit t s disks set r disks′ set
   unfolding toldPlan readerAnswer
   read-refused set {e} {r} q room answer =
       let same : settle (planSheet unit t s 0) disks short ≡ planOf unit t s disks set = room-same unit t s disks short set b room in

@@ -1,5 +1,5 @@
 -- Laws of the two writers.
---     wrote-refused, wrote-sent     a refusal before the sheet's writer, and what that writer did
+--     exported-refused, exported-sent     a refusal before the sheet's writer, and what that writer did
 --     settings-unusable, ..         lists that are broken or too long are 6
 --     settings-short, ..            the length of a sheet has room in its bits
 use mathlib.Core.Path.{_≡_, refl, sym, ap, _∙_}
@@ -22,36 +22,40 @@ use Rattle.settings.proofs.Longest.{longest-written as longest-settings}
 use Rattle.settings.proofs.Writing.{Sheeted, draft-either}
 use Rattle.request.specs.Draft.{requestDraft}
 use Rattle.request.proofs.RoundTrip.{longest-written as longest-request}
-use Rattle.desk.specs.Numbers.{numbers, broken, usable}
-use Rattle.desk.specs.Packed.{writerAnswer, Short}
-use Rattle.desk.specs.Desk.{settingsDraftOfBytes, requestDraftOfBytes, Wrote}
-use Rattle.desk.proofs.Tests.{is-usable, not-usable}
+use Rattle.lent.specs.Numbers.{numbers, broken, usable}
+use Rattle.lent.specs.Packed.{writerAnswer, Fits32}
+use Rattle.desk.specs.Desk.{settingsDraftOfBytes, requestDraftOfBytes, Exported}
+use Rattle.lent.proofs.Tests.{is-usable, not-usable}
 
 -- ---- the ways in which a writer ends
 
-pub wrote-refused : {d : Draft} (out : List ℕ) → d ≡ none 6 → Wrote d out 6 out
+pub exported-refused : {d : Draft} (out : List ℕ) → d ≡ none 6 → Exported d out 6 out
 unfolding writerAnswer answerTo leftBy
-wrote-refused out e = rw e (record { answer = refl; held = refl })
+exported-refused out e = rw e (record { answer = refl; held = refl })
 
-pub wrote-sent : {d e : Draft} {out : List ℕ} {w : Written} {r : ℕ} {after : List ℕ} → d ≡ e → Sent e out w after → r ≡ writerAnswer (toldWritten w) → Wrote d out r after
-wrote-sent {d} {e} {out} {w} {r} {after} q s a = record {
+pub exported-sent : {d e : Draft} {out : List ℕ} {w : Written} {r : ℕ} {after : List ℕ} → d ≡ e → Sent e out w after
+    → r ≡ writerAnswer (toldWritten w) → Exported d out r after
+exported-sent {d} {e} {out} {w} {r} {after} q s a = record {
   answer = a ∙ ap writerAnswer (s .answer) ∙ ap (λ (x : Draft). writerAnswer (answerTo x out)) (sym q);
   held = s .held ∙ ap (λ (x : Draft). leftBy x out) (sym q);
 }
 
 -- the same lists
-pub settings-sent : (unit t : ℕ) {cs ls ds cs′ ls′ ds′ out : List ℕ} {w : Written} {after : List ℕ} → cs′ ≡ cs → ls′ ≡ ls → ds′ ≡ ds → Sent (settingsDraft unit t cs′ ls′ ds′) out w after → Sent (settingsDraft unit t cs ls ds) out w after
+pub settings-sent : (unit t : ℕ) {cs ls ds cs′ ls′ ds′ out : List ℕ} {w : Written} {after : List ℕ} → cs′ ≡ cs → ls′ ≡ ls → ds′ ≡ ds
+    → Sent (settingsDraft unit t cs′ ls′ ds′) out w after → Sent (settingsDraft unit t cs ls ds) out w after
 settings-sent unit t p q r s = rw (sym p, sym q, sym r) s
 
 -- a sheet of fewer bytes than 32 bits count
-pub short-sent : (d : Draft) (out : List ℕ) (w : Written) (after : List ℕ) → Sent d out w after → ((bs : List ℕ) → d ≡ sheet bs → length bs < 2 ^ 32) → Short w
-unfolding Short toldWritten answerTo
+pub short-sent : (d : Draft) (out : List ℕ) (w : Written) (after : List ℕ) → Sent d out w after
+    → ((bs : List ℕ) → d ≡ sheet bs → length bs < 2 ^ 32) → Fits32 w
+unfolding Fits32 toldWritten answerTo
 short-sent d out (Refused e) after s few = tt
 short-sent (none k) out (Length n) after s few =
     let q : got tt n ≡ refused k = s .answer in absurd (let z : _≡_ {A = ℕ} 0 1 = cc in omega arith)
 short-sent (sheet bs) out (Length n) after s few =
     by-cases (leb (length bs) (length out))
-    (λ t. let q : got tt n ≡ got tt (length bs) = s .answer ∙ pick-true _ _ t in let m : n ≡ length bs = cc in omega (arith, m, few bs refl))
+    (λ t. let q : got tt n ≡ got tt (length bs) = s .answer ∙ pick-true _ _ t in let m : n ≡ length bs = cc in
+    omega (arith, m, few bs refl))
     (λ f. let q : got tt n ≡ refused 11 = s .answer ∙ pick-false _ _ f in absurd (let z : _≡_ {A = ℕ} 0 1 = cc in omega arith))
 
 -- ---- lists of costs, loads and delays
@@ -61,7 +65,8 @@ module _ (unit t : ℕ) (costs loads delays : List ℕ) where
   unfolding settingsDraftOfBytes
   settings-broken h = pick-true _ _ h
 
-  settings-long : (Sheeted unit t (numbers 4 costs) (numbers 4 loads) (numbers 4 delays) → ⊥) → settingsDraftOfBytes unit t costs loads delays ≡ none 6
+  settings-long : (Sheeted unit t (numbers 4 costs) (numbers 4 loads) (numbers 4 delays) → ⊥)
+      → settingsDraftOfBytes unit t costs loads delays ≡ none 6
   unfolding settingsDraftOfBytes
   settings-long f =
       pick-elim (λ (d : Draft). d ≡ none 6) _ _ _ (λ _. refl)
@@ -75,20 +80,25 @@ module _ (unit t : ℕ) (costs loads delays : List ℕ) where
 
   pub loads-unusable : usable 4 64 costs ≡ true → usable 4 64 loads ≡ false → settingsDraftOfBytes unit t costs loads delays ≡ none 6
   loads-unusable c h =
-      ⊎-elim (λ b. settings-broken (ap (λ (x : Bool). x || (broken 4 loads || broken 4 delays)) (is-usable 4 64 costs c .0) ∙ ap (λ (x : Bool). x || broken 4 delays) b))
+      ⊎-elim (λ b. settings-broken (ap (λ (x : Bool). x || (broken 4 loads || broken 4 delays)) (is-usable 4 64 costs c .0)
+      ∙ ap (λ (x : Bool). x || broken 4 delays) b))
       (λ l. settings-long (λ w. omega (arith, w .few, w .loads)))
       (not-usable 4 64 loads h)
 
-  pub delays-unusable : usable 4 64 costs ≡ true → usable 4 64 loads ≡ true → usable 4 64 delays ≡ false → settingsDraftOfBytes unit t costs loads delays ≡ none 6
+  pub delays-unusable : usable 4 64 costs ≡ true → usable 4 64 loads ≡ true → usable 4 64 delays ≡ false
+      → settingsDraftOfBytes unit t costs loads delays ≡ none 6
   delays-unusable c l h =
-      ⊎-elim (λ b. settings-broken (ap (λ (x : Bool). x || (broken 4 loads || broken 4 delays)) (is-usable 4 64 costs c .0) ∙ ap (λ (x : Bool). x || broken 4 delays) (is-usable 4 64 loads l .0) ∙ b))
+      ⊎-elim (λ b. settings-broken (ap (λ (x : Bool). x || (broken 4 loads || broken 4 delays)) (is-usable 4 64 costs c .0)
+      ∙ ap (λ (x : Bool). x || broken 4 delays) (is-usable 4 64 loads l .0) ∙ b))
       (λ k. settings-long (λ w. omega (arith, w .few, w .delays)))
       (not-usable 4 64 delays h)
 
-  pub settings-usable : usable 4 64 costs ≡ true → usable 4 64 loads ≡ true → usable 4 64 delays ≡ true → settingsDraftOfBytes unit t costs loads delays ≡ settingsDraft unit t (numbers 4 costs) (numbers 4 loads) (numbers 4 delays)
+  pub settings-usable : usable 4 64 costs ≡ true → usable 4 64 loads ≡ true → usable 4 64 delays ≡ true
+      → settingsDraftOfBytes unit t costs loads delays ≡ settingsDraft unit t (numbers 4 costs) (numbers 4 loads) (numbers 4 delays)
   unfolding settingsDraftOfBytes
   settings-usable c l d =
-      pick-false _ _ (ap (λ (x : Bool). x || (broken 4 loads || broken 4 delays)) (is-usable 4 64 costs c .0) ∙ ap (λ (x : Bool). x || broken 4 delays) (is-usable 4 64 loads l .0) ∙ is-usable 4 64 delays d .0)
+      pick-false _ _ (ap (λ (x : Bool). x || (broken 4 loads || broken 4 delays)) (is-usable 4 64 costs c .0)
+      ∙ ap (λ (x : Bool). x || broken 4 delays) (is-usable 4 64 loads l .0) ∙ is-usable 4 64 delays d .0)
 
 -- document 01's longest settings sheet has 652 bytes
 pub settings-short : (unit t : ℕ) (cs ls ds bs : List ℕ) → settingsDraft unit t cs ls ds ≡ sheet bs → length bs < 2 ^ 32

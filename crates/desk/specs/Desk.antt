@@ -1,6 +1,6 @@
 -- The promises of the three exported functions.
 --     settingsDraftOfBytes, requestDraftOfBytes     the sheet of lists of bytes, or why there is none
---     Wrote          a writer's answer, and the buffer afterwards
+--     Exported          a writer's answer, and the buffer afterwards
 --     planOf         what a plan sheet says, for two lists of bytes
 --     setLeft        the bytes of the short set afterwards
 --     PlanRead       the plan reader's answer, and the two lists afterwards
@@ -17,8 +17,8 @@ use Rattle.request.specs.Draft.{requestDraft}
 use Rattle.plan.specs.Plan.{Plan, planSheet}
 use Rattle.plan.specs.Receive.{settle, heads, disksLeft}
 use Rattle.basics.specs.Buffer.{over}
-use Rattle.desk.specs.Numbers.{bytesOf, numbers, broken}
-use Rattle.desk.specs.Packed.{writerAnswer, readerAnswer}
+use Rattle.lent.specs.Numbers.{bytesOf, numbers, broken}
+use Rattle.lent.specs.Packed.{writerAnswer, readerAnswer}
 
 -- the settings sheet of four-byte numbers; a list broken inside a number is 6 before the rest
 unfoldable pub settingsDraftOfBytes : ℕ → ℕ → List ℕ → List ℕ → List ℕ → Draft
@@ -31,7 +31,7 @@ unfoldable pub requestDraftOfBytes : ℕ → ℕ → ℕ → List ℕ → Draft
 requestDraftOfBytes unit t n copies = pick (broken 8 copies) (none 6) (requestDraft unit t n (numbers 8 copies))
 
 -- the sheet stands at the start of the buffer, the rest as it was; on refusal nothing has changed
-pub record Wrote (d : Draft) (out : List ℕ) (r : ℕ) (after : List ℕ) : Type 0 where
+pub record Exported (d : Draft) (out : List ℕ) (r : ℕ) (after : List ℕ) : Type 0 where
   pub answer : r ≡ writerAnswer (answerTo d out)
   pub held : after ≡ leftBy d out
 

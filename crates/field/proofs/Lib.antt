@@ -10,3 +10,5 @@ pub mod Opened
 pub mod Unique
 pub mod Lists
 pub mod Sends
+pub mod Known
+pub mod OneByte

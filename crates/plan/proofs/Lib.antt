@@ -9,3 +9,4 @@ pub mod Sending
 pub mod Longest
 pub mod RoundTrip
 pub mod Unique
+pub mod Known

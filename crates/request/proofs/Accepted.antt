@@ -44,20 +44,23 @@ unfolding disksOf
 count-of m = disks-count m 64
 
 -- the copies of a rising list can be sent
-sendable : (n : ℕ) → (n ≡ 0 → ⊥) → n ≤ 64 → (k : ℕ) (ds : List ℕ) → Rises 0 (lastDisk n) ds → length ds ≡ k → (k ≡ 0 → ⊥) → k ≤ 8 → Sendable n (maskOf ds)
+sendable : (n : ℕ) → (n ≡ 0 → ⊥) → n ≤ 64 → (k : ℕ) (ds : List ℕ) → Rises 0 (lastDisk n) ds → length ds ≡ k → (k ≡ 0 → ⊥) → k ≤ 8
+    → Sendable n (maskOf ds)
 sendable n known within k ds r e some few =
     let same : disksOf (maskOf ds) ≡ ds = disks-mask (lastDisk n) ds (last-le n) r in
     let count : members 64 (maskOf ds) ≡ k = sym (count-of (maskOf ds)) ∙ ap length same ∙ e in
     record {
       some = λ z. some (sym count ∙ ap (members 64) z ∙ members-zero 64);
       few = omega (arith, count);
-      under = subst (λ (j : ℕ). maskOf ds < 2 ^ j) (last-of n known within) (omega (arith, mask-under 0 (lastDisk n) 0 ds r (omega arith) (omega arith)));
+      under = subst (λ (j : ℕ). maskOf ds < 2 ^ j) (last-of n known within)
+          (omega (arith, mask-under 0 (lastDisk n) 0 ds r (omega arith) (omega arith)));
     }
 
 pub block-sendable : (n : ℕ) → (n ≡ 0 → ⊥) → n ≤ 64 → (s : List ℕ) (at m e : ℕ) → block (lastDisk n) s at ≡ got m e → Sendable n m
 block-sendable n known within s at m e h =
     let w : Listed (lastDisk n) s at m e = block-got (lastDisk n) s at m e h in
-    let r : (length (w .disks) ≡ w .count) × Rises 0 (lastDisk n) (w .disks) = ascending-rises (lastDisk n) s (w .count) 0 (w .mid) (w .disks) e (w .rest) in
+    let r : (length (w .disks) ≡ w .count)
+    × Rises 0 (lastDisk n) (w .disks) = ascending-rises (lastDisk n) s (w .count) 0 (w .mid) (w .disks) e (w .rest) in
     subst (Sendable n) (w .sum) (sendable n known within (w .count) (w .disks) (r .1) (r .0) (w .some) (w .few))
 
 -- ---- the copies that are handed out
@@ -71,11 +74,14 @@ pub record Accepts (unit t n : ℕ) (s : List ℕ) (q : ℕ) (copies : List ℕ)
   pub beyond : drop q copies ≡ replicate (1024 - q) 0
 
 -- an accepted sheet, as the definition has it
-sheet-blocks : (unit t n : ℕ) (s ms : List ℕ) (e : ℕ) → n ≤ 64 → requestSheet unit t n s 0 ≡ got ms e → (0 < n) × (length ms ≤ 1024) × All (Sendable n) ms
+sheet-blocks : (unit t n : ℕ) (s ms : List ℕ) (e : ℕ) → n ≤ 64 → requestSheet unit t n s 0 ≡ got ms e → (0 < n)
+    × (length ms ≤ 1024) × All (Sendable n) ms
 sheet-blocks unit t n s ms e l h =
     let w : Whole unit t n s ms e = sheet-got unit t n s ms e h in
     let known : 0 < n = ltb-true 0 n (w .headed .known) in
-    let j : (length ms ≡ w .count) × All (Sendable n) ms = times-all (block (lastDisk n)) (Sendable n) s (block-sendable n (λ z. omega arith) l s) (w .count) (w .mid) ms e (w .rest) in
+    let j : (length ms ≡ w .count)
+    × All (Sendable n) ms = times-all (block (lastDisk n)) (Sendable n) s (block-sendable n (λ z. omega arith) l s) (w .count)
+    (w .mid) ms e (w .rest) in
     (known, omega (arith, j .0, w .small), j .1)
 
 -- by cases on what the definition says
@@ -89,10 +95,12 @@ unfolding counted
 counted-refused (got ms e) n h = absurd (let z : _≡_ {A = ℕ} 0 1 = cc in omega arith)
 counted-refused (refused m) n h = cc
 
-pub accepted : (unit t n : ℕ) (s : List ℕ) (q : ℕ) (r : Request) → n ≤ 64 → Answered (length s) (requestSheet unit t n s 0) r → r .answer ≡ Accepted q → Accepts unit t n s q (r .copies)
+pub accepted : (unit t n : ℕ) (s : List ℕ) (q : ℕ) (r : Request) → n ≤ 64 → Answered (length s) (requestSheet unit t n s 0) r
+    → r .answer ≡ Accepted q → Accepts unit t n s q (r .copies)
 unfolding toldAnswer padded
 accepted unit t n s q r l a h =
-    let w : (ms : List ℕ) × (requestSheet unit t n s 0 ≡ got ms (length s)) × (length ms ≡ q) = counted-got (requestSheet unit t n s 0) (length s) q (sym (ap (toldAnswer (length s)) h) ∙ a .told) in
+    let w : (ms : List ℕ) × (requestSheet unit t n s 0 ≡ got ms (length s))
+    × (length ms ≡ q) = counted-got (requestSheet unit t n s 0) (length s) q (sym (ap (toldAnswer (length s)) h) ∙ a .told) in
     let c : r .copies ≡ w .0 ++ replicate (1024 - length (w .0)) 0 = a .held ∙ ap padded (w .1) in
     let front : take q (r .copies) ≡ w .0 = ap (take q) c ∙ take-at (w .0) (replicate (1024 - length (w .0)) 0) q (w .2) in
     let b : (0 < n) × (length (w .0) ≤ 1024) × All (Sendable n) (w .0) = sheet-blocks unit t n s (w .0) (length s) l (w .1) in
@@ -106,10 +114,12 @@ accepted unit t n s q r l a h =
     }
 
 -- each block has copies, at most eight, all below N
-pub accepted-at : {unit t n : ℕ} {s : List ℕ} {q : ℕ} {copies : List ℕ} → Accepts unit t n s q copies → (i : ℕ) → i < q → Sendable n (getD copies i 0)
+pub accepted-at : {unit t n : ℕ} {s : List ℕ} {q : ℕ} {copies : List ℕ} → Accepts unit t n s q copies → (i : ℕ) → i < q
+    → Sendable n (getD copies i 0)
 accepted-at {unit} {t} {n} {s} {q} {copies} a i l =
     subst (Sendable n) (getD-take q copies i 0 l) (all-at (Sendable n) (take q copies) 0 i (a .blocks) (omega (arith, a .count)))
 
-pub refused-sheet : (len : ℕ) (o : Out (List ℕ)) (r : Request) (e : Refusal) → Answered len o r → r .answer ≡ Refused e → o ≡ refused (numberOf e)
+pub refused-sheet : (len : ℕ) (o : Out (List ℕ)) (r : Request) (e : Refusal) → Answered len o r → r .answer ≡ Refused e
+    → o ≡ refused (numberOf e)
 unfolding toldAnswer
 refused-sheet len o r e a h = counted-refused o (numberOf e) (sym (ap (toldAnswer len) h) ∙ a .told)

@@ -88,7 +88,8 @@ disks-top floor low v h l =
     (disks-same v (low + 2 ^ v) low (λ e k. has-plus v low e under ∙ ap (λ (b : Bool). b || has low e) (ne-eqb e v (λ q. omega arith)))
     ∙ disks-up floor v low h l)
 
-pub disks-plus : (n floor high low : ℕ) (ds : List ℕ) → Rises floor high ds → high < n → floor ≤ n → low < 2 ^ floor → disksBelow n (low + maskOf ds) ≡ disksBelow floor low ++ ds
+pub disks-plus : (n floor high low : ℕ) (ds : List ℕ) → Rises floor high ds → high < n → floor ≤ n → low < 2 ^ floor
+    → disksBelow n (low + maskOf ds) ≡ disksBelow floor low ++ ds
 unfolding maskOf Rises
 disks-plus n floor high low [] r b l h =
     ap (disksBelow n) {x = low + 0} {y = low} (omega arith) ∙ disks-up floor n low h l ∙ sym (append-nil (disksBelow floor low))
@@ -105,20 +106,24 @@ none-below ds = refl
 
 pub disks-mask : (high : ℕ) (ds : List ℕ) → high ≤ 63 → Rises 0 high ds → disksOf (maskOf ds) ≡ ds
 unfolding disksOf
-disks-mask high ds b r = ap (disksBelow 64) (sym (zero-add (maskOf ds))) ∙ disks-plus 64 0 high 0 ds r (omega arith) (omega arith) (omega arith) ∙ none-below ds
+disks-mask high ds b r = ap (disksBelow 64) (sym (zero-add (maskOf ds)))
+    ∙ disks-plus 64 0 high 0 ds r (omega arith) (omega arith) (omega arith) ∙ none-below ds
 
-pub mask-under : (floor high low : ℕ) (ds : List ℕ) → Rises floor high ds → floor ≤ high + 1 → low < 2 ^ floor → low + maskOf ds < 2 ^ (high + 1)
+pub mask-under : (floor high low : ℕ) (ds : List ℕ) → Rises floor high ds → floor ≤ high + 1 → low < 2 ^ floor
+    → low + maskOf ds < 2 ^ (high + 1)
 unfolding maskOf Rises
 mask-under floor high low [] r l h = let g : 2 ^ floor ≤ 2 ^ (high + 1) = pow-mono l in omega arith
 mask-under floor high low (v ∷ vs) r l h =
     let g : 2 ^ floor ≤ 2 ^ v = pow-mono (r .0) in
-    let k : low + 2 ^ v + maskOf vs < 2 ^ (high + 1) = mask-under (v + 1) high (low + 2 ^ v) vs (r .2) (omega (arith, r .1)) (plus-lt v low (omega arith)) in
+    let k : low + 2 ^ v + maskOf vs < 2 ^ (high + 1) =
+    mask-under (v + 1) high (low + 2 ^ v) vs (r .2) (omega (arith, r .1)) (plus-lt v low (omega arith)) in
     omega arith
 
 -- ---- the disks of a number rise
 
 -- the rest of a list that lies under v
-rises-snoc : (floor high v : ℕ) (xs : List ℕ) → Rises floor high xs → All (λ x. x < v) xs → floor ≤ v → v ≤ high → Rises floor high (xs ++ (v ∷ []))
+rises-snoc : (floor high v : ℕ) (xs : List ℕ) → Rises floor high xs → All (λ x. x < v) xs → floor ≤ v → v ≤ high
+    → Rises floor high (xs ++ (v ∷ []))
 unfolding Rises All
 rises-snoc floor high v [] r a l h = (l, h, tt)
 rises-snoc floor high v (x ∷ xs) r a l h = (r .0, r .1, rises-snoc (x + 1) high v xs (r .2) (a .1) (omega (arith, a .0)) h)
@@ -146,4 +151,5 @@ disks-rising (suc d) high m h =
 
 pub disks-rise : (high m : ℕ) → high ≤ 63 → m < 2 ^ (high + 1) → Rises 0 high (disksOf m)
 unfolding disksOf
-disks-rise high m l h = subst (Rises 0 high) (sym (disks-up (high + 1) 64 m h (omega arith))) (disks-rising (high + 1) high m (omega arith) .0)
+disks-rise high m l h =
+    subst (Rises 0 high) (sym (disks-up (high + 1) 64 m h (omega arith))) (disks-rising (high + 1) high m (omega arith) .0)

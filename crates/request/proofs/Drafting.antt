@@ -50,12 +50,14 @@ module _ (unit t n : ℕ) (ms : List ℕ) where
         pub draft-long : 1024 < length ms → requestDraft unit t n ms ≡ none 6
         unfolding requestDraft
         draft-long l =
-            pick-false _ _ (ne-eqb t 0 rented) ∙ pick-false _ _ (ne-eqb n 0 known) ∙ pick-false _ _ (le-ltb 64 n few) ∙ pick-true _ _ (lt-ltb 1024 (length ms) l)
+            pick-false _ _ (ne-eqb t 0 rented) ∙ pick-false _ _ (ne-eqb n 0 known) ∙ pick-false _ _ (le-ltb 64 n few)
+            ∙ pick-true _ _ (lt-ltb 1024 (length ms) l)
 
         pub draft-of : length ms ≤ 1024 → requestDraft unit t n ms ≡ checked n ms (sheet (requestBytes unit t ms))
         unfolding requestDraft
         draft-of l =
-            pick-false _ _ (ne-eqb t 0 rented) ∙ pick-false _ _ (ne-eqb n 0 known) ∙ pick-false _ _ (le-ltb 64 n few) ∙ pick-false _ _ (le-ltb 1024 (length ms) l)
+            pick-false _ _ (ne-eqb t 0 rented) ∙ pick-false _ _ (ne-eqb n 0 known) ∙ pick-false _ _ (le-ltb 64 n few)
+            ∙ pick-false _ _ (le-ltb 1024 (length ms) l)
 
 -- another name of a draft
 pub sent-as : {d e : Draft} {out : List ℕ} {r : Written} {after : List ℕ} → d ≡ e → Sent e out r after → Sent d out r after
@@ -73,7 +75,8 @@ pub checked-pass : (n : ℕ) (ms : List ℕ) (d : Draft) → All (Sendable n) ms
 unfolding checked All
 checked-pass n [] d a = refl
 checked-pass n (m ∷ ms) d a =
-    pick-false _ _ (ne-eqb m 0 (a .0 .some)) ∙ pick-false _ _ (le-ltb 8 (members 64 m) (a .0 .few)) ∙ pick-false _ _ (lt-leb (2 ^ n) m (a .0 .under)) ∙ checked-pass n ms d (a .1)
+    pick-false _ _ (ne-eqb m 0 (a .0 .some)) ∙ pick-false _ _ (le-ltb 8 (members 64 m) (a .0 .few))
+    ∙ pick-false _ _ (lt-leb (2 ^ n) m (a .0 .under)) ∙ checked-pass n ms d (a .1)
 
 -- a test that refuses did not hold where there is a sheet
 passes : (b : Bool) (e : ℕ) (d : Draft) (bs : List ℕ) → pick b (none e) d ≡ sheet bs → (b ≡ false) × (d ≡ sheet bs)
@@ -85,7 +88,8 @@ pub checked-all : (n : ℕ) (ms : List ℕ) (d : Draft) (bs : List ℕ) → chec
 unfolding checked All
 checked-all n [] d bs h = (tt, h)
 checked-all n (m ∷ ms) d bs h =
-    let f : (eqb m 0 ≡ false) × (pick (ltb 8 (members 64 m)) (none 6) (pick (leb (2 ^ n) m) (none 6) (checked n ms d)) ≡ sheet bs) = passes _ 7 _ bs h in
+    let f : (eqb m 0 ≡ false)
+    × (pick (ltb 8 (members 64 m)) (none 6) (pick (leb (2 ^ n) m) (none 6) (checked n ms d)) ≡ sheet bs) = passes _ 7 _ bs h in
     let g : (ltb 8 (members 64 m) ≡ false) × (pick (leb (2 ^ n) m) (none 6) (checked n ms d) ≡ sheet bs) = passes _ 6 _ bs (f .1) in
     let i : (leb (2 ^ n) m ≡ false) × (checked n ms d ≡ sheet bs) = passes _ 6 _ bs (g .1) in
     let j : All (Sendable n) ms × (d ≡ sheet bs) = checked-all n ms d bs (i .1) in
@@ -103,11 +107,18 @@ pub record Drafted (unit t n : ℕ) (ms bs : List ℕ) : Type 0 where
 pub drafted : (unit t n : ℕ) (ms bs : List ℕ) → requestDraft unit t n ms ≡ sheet bs → Drafted unit t n ms bs
 unfolding requestDraft
 drafted unit t n ms bs h =
-    let f : (eqb t 0 ≡ false) × (pick (eqb n 0) (none 6) (pick (ltb 64 n) (none 6) (pick (ltb 1024 (length ms)) (none 6) (checked n ms (sheet (requestBytes unit t ms))))) ≡ sheet bs) = passes _ 6 _ bs h in
-    let g : (eqb n 0 ≡ false) × (pick (ltb 64 n) (none 6) (pick (ltb 1024 (length ms)) (none 6) (checked n ms (sheet (requestBytes unit t ms)))) ≡ sheet bs) = passes _ 6 _ bs (f .1) in
-    let i : (ltb 64 n ≡ false) × (pick (ltb 1024 (length ms)) (none 6) (checked n ms (sheet (requestBytes unit t ms))) ≡ sheet bs) = passes _ 6 _ bs (g .1) in
+    let f : (eqb t 0 ≡ false)
+    × (pick (eqb n 0) (none 6)
+    (pick (ltb 64 n) (none 6) (pick (ltb 1024 (length ms)) (none 6) (checked n ms (sheet (requestBytes unit t ms)))))
+    ≡ sheet bs) = passes _ 6 _ bs h in
+    let g : (eqb n 0 ≡ false)
+    × (pick (ltb 64 n) (none 6) (pick (ltb 1024 (length ms)) (none 6) (checked n ms (sheet (requestBytes unit t ms)))) ≡ sheet bs) =
+    passes _ 6 _ bs (f .1) in
+    let i : (ltb 64 n ≡ false) × (pick (ltb 1024 (length ms)) (none 6) (checked n ms (sheet (requestBytes unit t ms))) ≡ sheet bs) =
+    passes _ 6 _ bs (g .1) in
     let j : (ltb 1024 (length ms) ≡ false) × (checked n ms (sheet (requestBytes unit t ms)) ≡ sheet bs) = passes _ 6 _ bs (i .1) in
-    let k : All (Sendable n) ms × (sheet (requestBytes unit t ms) ≡ sheet bs) = checked-all n ms (sheet (requestBytes unit t ms)) bs (j .1) in
+    let k : All (Sendable n) ms
+    × (sheet (requestBytes unit t ms) ≡ sheet bs) = checked-all n ms (sheet (requestBytes unit t ms)) bs (j .1) in
     let e : sheet (requestBytes unit t ms) ≡ sheet bs = k .1 in
     record {
       rented = eqb-false t 0 (f .0);
@@ -122,30 +133,43 @@ drafted unit t n ms bs h =
 
 pub heading-length : (unit t q : ℕ) → length (headingBytes unit t q) ≡ 1 + widthOf unit + widthOf t + widthOf q
 unfolding headingBytes widthOf
-heading-length unit t q = omega (arith, length-append (openingBytes 2 unit t) (encode q), opening-length 2 unit t, width-one 2 (omega arith))
+heading-length unit t q =
+    omega (arith, length-append (openingBytes 2 unit t) (encode q), opening-length 2 unit t, width-one 2 (omega arith))
 
 pub blocks-bound : (n : ℕ) (ms : List ℕ) → All (Sendable n) ms → length (spellAll blockBytes ms) ≤ 9 * length ms
 unfolding spellAll All
 blocks-bound n [] a = omega arith
-blocks-bound n (m ∷ ms) a = omega (arith, length-append (blockBytes m) (spellAll blockBytes ms), block-length m, a .0 .few, blocks-bound n ms (a .1))
+blocks-bound n (m ∷ ms) a =
+    omega (arith, length-append (blockBytes m) (spellAll blockBytes ms), block-length m, a .0 .few, blocks-bound n ms (a .1))
 
 -- ---- what the count told
 
-pub sized-got : (n : ℕ) (ms : List ℕ) {r : Written} {k : ℕ} → Sized n ms r → r ≡ Length k → Counted ms k × ((d : Draft) → checked n ms d ≡ d)
+pub sized-got : (n : ℕ) (ms : List ℕ) {r : Written} {k : ℕ} → Sized n ms r → r ≡ Length k → Counted ms k
+    × ((d : Draft) → checked n ms d ≡ d)
 unfolding Sized
 sized-got n ms s e = subst (Sized n ms) e s
 
-pub sized-refused : (n : ℕ) (ms : List ℕ) {r : Written} {e : Refusal} → Sized n ms r → r ≡ Refused e → (d : Draft) → checked n ms d ≡ none (numberOf e)
+pub sized-refused : (n : ℕ) (ms : List ℕ) {r : Written} {e : Refusal} → Sized n ms r → r ≡ Refused e → (d : Draft)
+    → checked n ms d ≡ none (numberOf e)
 unfolding Sized
 sized-refused n ms s q = subst (Sized n ms) q s
 
 -- ---- room for all of it
 
 -- the length as the writer adds it up
-pub request-length : (unit t : ℕ) (ms : List ℕ) {a b c k : ℕ} → a ≡ widthOf unit → b ≡ widthOf t → c ≡ widthOf (length ms) → Counted ms k → length (requestBytes unit t ms) ≡ 1 + a + b + c + k
+pub request-length : (unit t : ℕ) (ms : List ℕ) {a b c k : ℕ} → a ≡ widthOf unit → b ≡ widthOf t → c ≡ widthOf (length ms) → Counted ms k
+    → length (requestBytes unit t ms) ≡ 1 + a + b + c + k
 unfolding requestBytes
 request-length unit t ms ea eb ec n =
-    omega (arith, ea, eb, ec, n .bytes, length-append (headingBytes unit t (length ms)) (spellAll blockBytes ms), heading-length unit t (length ms))
+    omega (
+      arith,
+      ea,
+      eb,
+      ec,
+      n .bytes,
+      length-append (headingBytes unit t (length ms)) (spellAll blockBytes ms),
+      heading-length unit t (length ms),
+    )
 
 -- where the whole request has room, its parts have
 module _ (unit t : ℕ) (ms out : List ℕ) (room : length (requestBytes unit t ms) ≤ length out) where

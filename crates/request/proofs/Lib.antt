@@ -7,3 +7,4 @@ pub mod Drafting
 pub mod Accepted
 pub mod RoundTrip
 pub mod Unique
+pub mod Gathering

@@ -16,10 +16,12 @@ use Rattle.mask.proofs.Bits.{has-pow}
 pub has-plus : (d m e : ℕ) → m < 2 ^ d → has (m + 2 ^ d) e ≡ (eqb e d || has m e)
 has-plus zero m e h =
     let z : m ≡ 0 = lt-one h in
-    ap (λ (x : ℕ). has (x + 1) e) z ∙ has-pow 0 e ∙ sym (or-false (eqb e 0)) ∙ ap (λ (t : Bool). eqb e 0 || t) (sym (has-zero e) ∙ ap (λ (x : ℕ). has x e) (sym z))
+    ap (λ (x : ℕ). has (x + 1) e) z ∙ has-pow 0 e ∙ sym (or-false (eqb e 0))
+    ∙ ap (λ (t : Bool). eqb e 0 || t) (sym (has-zero e) ∙ ap (λ (x : ℕ). has x e) (sym z))
 has-plus (suc d) m zero h =
     let p = pow-suc 2 d in
-    has-first (m + 2 ^ suc d) ∙ ap (λ (x : ℕ). eqb x 1) {x = (m + 2 ^ suc d) % 2} {y = m % 2} (omega arith) ∙ sym (has-first m) ∙ ap (λ (t : Bool). t || has m 0) (sym (eqb·zero-suc d))
+    has-first (m + 2 ^ suc d) ∙ ap (λ (x : ℕ). eqb x 1) {x = (m + 2 ^ suc d) % 2} {y = m % 2} (omega arith) ∙ sym (has-first m)
+    ∙ ap (λ (t : Bool). t || has m 0) (sym (eqb·zero-suc d))
 has-plus (suc d) m (suc e) h =
     let p = pow-suc 2 d in
     has-half (m + 2 ^ suc d) e
@@ -34,7 +36,8 @@ lt-up {m} {floor} {d} h l = let g : 2 ^ floor ≤ 2 ^ d = pow-mono l in omega ar
 
 -- below the next power of two
 pub plus-lt : (d m : ℕ) → m < 2 ^ d → m + 2 ^ d < 2 ^ (d + 1)
-plus-lt d m h = let p = pow-suc 2 d in let e : 2 ^ (d + 1) ≡ 2 ^ suc d = ap (λ (k : ℕ). 2 ^ k) {x = d + 1} {y = suc d} (omega arith) in omega arith
+plus-lt d m h = let p = pow-suc 2 d in
+    let e : 2 ^ (d + 1) ≡ 2 ^ suc d = ap (λ (k : ℕ). 2 ^ k) {x = d + 1} {y = suc d} (omega arith) in omega arith
 
 pub set-sum : (m d r : ℕ) → d < 64 → m < 2 ^ d → r < 2 ^ 64 → Added m d r → r ≡ m + 2 ^ d
 set-sum m d r l h b a =

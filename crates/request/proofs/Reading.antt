@@ -72,11 +72,13 @@ module _ (high : ℕ) (s : List ℕ) (left floor at m : ℕ) where
   unfolding ascending masked maskOf pure
   gather-done z = ap (λ (k : ℕ). masked m (ascending k floor high s at)) z ∙ ap (λ (k : ℕ). got k at) (omega arith)
 
-  pub gather-step : {v e : ℕ} (r : ℕ) → r ≡ m + 2 ^ v → (left ≡ 0 → ⊥) → rising floor high s at ≡ got v e → masked m (ascending left floor high s at) ≡ masked r (ascending (left - 1) (v + 1) high s e)
+  pub gather-step : {v e : ℕ} (r : ℕ) → r ≡ m + 2 ^ v → (left ≡ 0 → ⊥) → rising floor high s at ≡ got v e
+      → masked m (ascending left floor high s at) ≡ masked r (ascending (left - 1) (v + 1) high s e)
   unfolding ascending
   gather-step {v} {e} r q z h =
       let k : left ≡ suc (left - 1) = omega arith in
-      ap (λ (k : ℕ). masked m (ascending k floor high s at)) k ∙ ap (masked m) (next (rising floor high) _ s at h) ∙ listed m v (ascending (left - 1) (v + 1) high) s e ∙ ap (λ (k : ℕ). masked k (ascending (left - 1) (v + 1) high s e)) (sym q)
+      ap (λ (k : ℕ). masked m (ascending k floor high s at)) k ∙ ap (masked m) (next (rising floor high) _ s at h)
+      ∙ listed m v (ascending (left - 1) (v + 1) high) s e ∙ ap (λ (k : ℕ). masked k (ascending (left - 1) (v + 1) high s e)) (sym q)
 
   pub gather-stop : {n : ℕ} → (left ≡ 0 → ⊥) → rising floor high s at ≡ refused n → masked m (ascending left floor high s at) ≡ refused n
   unfolding ascending masked
@@ -107,7 +109,8 @@ module _ (high : ℕ) (s : List ℕ) (at : ℕ) where
 
     pub block-of : (k ≡ 0 → ⊥) → k ≤ 8 → block high s at ≡ masked 0 (ascending k 0 high s e)
     unfolding block
-    block-of z l = next number _ s at h ∙ pass 7 _ s e (ap not (ne-eqb k 0 z)) ∙ pass 6 _ s e (le-leb k 8 l) ∙ summed (ascending k 0 high) s e
+    block-of z l = next number _ s at h ∙ pass 7 _ s e (ap not (ne-eqb k 0 z)) ∙ pass 6 _ s e (le-leb k 8 l)
+        ∙ summed (ascending k 0 high) s e
 
   pub block-stops : {n : ℕ} → number s at ≡ refused n → block high s at ≡ refused n
   unfolding block
@@ -128,10 +131,13 @@ pub block-got : (high : ℕ) (s : List ℕ) (at m e : ℕ) → block high s at �
 unfolding block
 block-got high s at m e h =
     let rest : ℕ → Parser ℕ = λ k. ascending k 0 high >>= λ ds. pure (maskOf ds) in
-    let f : Step (number s at) (λ k j. (require (not (eqb k 0)) 7 >> (require (leb k 8) 6 >> rest k)) s j) m e = bind-got number s at m e (λ k. require (not (eqb k 0)) 7 >> (require (leb k 8) 6 >> rest k)) h in
-    let g : (not (eqb (f .found) 0) ≡ true) × ((require (leb (f .found) 8) 6 >> rest (f .found)) s (f .mid) ≡ got m e) = passed _ 7 _ s (f .mid) m e (f .last) in
+    let f : Step (number s at) (λ k j. (require (not (eqb k 0)) 7 >> (require (leb k 8) 6 >> rest k)) s j) m e =
+    bind-got number s at m e (λ k. require (not (eqb k 0)) 7 >> (require (leb k 8) 6 >> rest k)) h in
+    let g : (not (eqb (f .found) 0) ≡ true)
+    × ((require (leb (f .found) 8) 6 >> rest (f .found)) s (f .mid) ≡ got m e) = passed _ 7 _ s (f .mid) m e (f .last) in
     let i : (leb (f .found) 8 ≡ true) × (rest (f .found) s (f .mid) ≡ got m e) = passed _ 6 _ s (f .mid) m e (g .1) in
-    let j : Step (ascending (f .found) 0 high s (f .mid)) (λ ds k. pure (maskOf ds) s k) m e = bind-got (ascending (f .found) 0 high) s (f .mid) m e (λ ds. pure (maskOf ds)) (i .1) in
+    let j : Step (ascending (f .found) 0 high s (f .mid)) (λ ds k. pure (maskOf ds) s k) m e =
+    bind-got (ascending (f .found) 0 high) s (f .mid) m e (λ ds. pure (maskOf ds)) (i .1) in
     let p : (maskOf (j .found) ≡ m) × (j .mid ≡ e) = pure-got (maskOf (j .found)) m s (j .mid) e (j .last) in
     record {
       count = f .found;
@@ -171,13 +177,15 @@ pub record Headed (unit t n : ℕ) (s : List ℕ) (q e : ℕ) : Type 0 where
 pub heading-got : (unit t n : ℕ) (s : List ℕ) (q e : ℕ) → heading unit t n s 0 ≡ got q e → Headed unit t n s q e
 unfolding heading
 heading-got unit t n s q e h =
-    let f : Step (opening 2 unit t s 0) (λ _ m. (require (ltb 0 n) 10 >> inside 0 1024) s m) q e = after-got (opening 2 unit t) s 0 q e (require (ltb 0 n) 10 >> inside 0 1024) h in
+    let f : Step (opening 2 unit t s 0) (λ _ m. (require (ltb 0 n) 10 >> inside 0 1024) s m) q e =
+    after-got (opening 2 unit t) s 0 q e (require (ltb 0 n) 10 >> inside 0 1024) h in
     let j : (ltb 0 n ≡ true) × (inside 0 1024 s (f .mid) ≡ got q e) = passed (ltb 0 n) 10 (inside 0 1024) s (f .mid) q e (f .last) in
     record { lease = f .found; mid = f .mid; first = f .first; known = j .0; last = j .1 }
 
 -- Q is in its range
 pub heading-within : (unit t n : ℕ) (s : List ℕ) {q e : ℕ} → heading unit t n s 0 ≡ got q e → q ≤ 1024
-heading-within unit t n s {q} {e} h = let g : Headed unit t n s q e = heading-got unit t n s q e h in inside-range s (g .mid) 0 1024 q e (g .last) .1
+heading-within unit t n s {q} {e} h = let g : Headed unit t n s q e = heading-got unit t n s q e h in
+    inside-range s (g .mid) 0 1024 q e (g .last) .1
 
 -- ---- the blocks
 
@@ -194,7 +202,8 @@ drop-zeros k h = ap (λ (j : ℕ). drop {A = ℕ} 1 (replicate j 0)) {x = 1024 -
 
 module _ (q high : ℕ) (s : List ℕ) (at : ℕ) where
   pub filled-start : Filled q high s at (replicate 1024 0) at 0
-  filled-start = record { within = omega arith; long = length-replicate {A = ℕ} 1024 0; rest = refl; held = times-start (block high) s q at }
+  filled-start = record
+      { within = omega arith; long = length-replicate {A = ℕ} 1024 0; rest = refl; held = times-start (block high) s q at }
 
   module _ (copies : List ℕ) (p i : ℕ) (f : Filled q high s at copies p i) where
     pub filled-step : {m e : ℕ} → i < q → q ≤ 1024 → block high s p ≡ got m e → Filled q high s at (set copies i m) e (i + 1)
@@ -203,9 +212,11 @@ module _ (q high : ℕ) (s : List ℕ) (at : ℕ) where
         record {
           within = omega arith;
           long = length-set copies i m ∙ f .long;
-          rest = drop-set-lt (i + 1) copies i m (omega arith) ∙ sym (drop-drop 1 i copies) ∙ ap (drop 1) (f .rest) ∙ drop-zeros i (omega arith);
+          rest = drop-set-lt (i + 1) copies i m (omega arith) ∙ sym (drop-drop 1 i copies) ∙ ap (drop 1) (f .rest)
+              ∙ drop-zeros i (omega arith);
           held = f .held ∙ times-step (block high) s q i p (take i copies) l h
-              ∙ ap (λ (x : List ℕ). prefix x (times (q - (i + 1)) (block high) s e)) (sym (take-suc-set copies i m room) ∙ ap (λ (k : ℕ). take k (set copies i m)) {x = suc i} {y = i + 1} (omega arith));
+              ∙ ap (λ (x : List ℕ). prefix x (times (q - (i + 1)) (block high) s e)) (sym (take-suc-set copies i m room)
+              ∙ ap (λ (k : ℕ). take k (set copies i m)) {x = suc i} {y = i + 1} (omega arith));
         }
 
     pub filled-stop : {n : ℕ} → i < q → block high s p ≡ refused n → whole (times q (block high)) s at ≡ refused n
@@ -221,16 +232,20 @@ module _ (q high : ℕ) (s : List ℕ) (at : ℕ) where
     unfolding whole
     filled-extra l h = next (times q (block high)) _ s at (all-read l) ∙ halts end _ s p h
 
-    pub filled-done : {v e : ℕ} (r : Request) → r .answer ≡ Accepted q → r .copies ≡ copies → q ≤ i → q ≤ 1024 → end s p ≡ got v e → Answered (length s) (whole (times q (block high)) s at) r
+    pub filled-done : {v e : ℕ} (r : Request) → r .answer ≡ Accepted q → r .copies ≡ copies → q ≤ i → q ≤ 1024 → end s p ≡ got v e
+        → Answered (length s) (whole (times q (block high)) s at) r
     unfolding whole pure toldAnswer counted padded
     filled-done {v} {e} r a b l small h =
         let n : length (take q copies) ≡ q = length-take-le q copies (omega (arith, f .long)) in
-        let o : whole (times q (block high)) s at ≡ got (take q copies) e = next (times q (block high)) _ s at (all-read l) ∙ then end _ s p h in
+        let o : whole (times q (block high)) s at ≡ got (take q copies) e =
+        next (times q (block high)) _ s at (all-read l) ∙ then end _ s p h in
         let i≡q : i ≡ q = omega (arith, f .within) in
         record {
-          told = ap (toldAnswer (length s)) a ∙ ap (got q) (sym (end-place s p v e h)) ∙ ap (λ (k : ℕ). got k e) (sym n) ∙ sym (ap counted o);
+          told = ap (toldAnswer (length s)) a ∙ ap (got q) (sym (end-place s p v e h))
+              ∙ ap (λ (k : ℕ). got k e) (sym n) ∙ sym (ap counted o);
           held = b ∙ sym (take-append-drop q copies)
-              ∙ ap (λ (x : List ℕ). take q copies ++ x) (ap (λ (k : ℕ). drop k copies) (sym i≡q) ∙ f .rest ∙ ap (λ (k : ℕ). replicate (1024 - k) 0) (i≡q ∙ sym n))
+              ∙ ap (λ (x : List ℕ). take q copies ++ x) (ap (λ (k : ℕ). drop k copies) (sym i≡q) ∙ f .rest
+              ∙ ap (λ (k : ℕ). replicate (1024 - k) 0) (i≡q ∙ sym n))
               ∙ sym (ap padded o);
         }
 
@@ -250,9 +265,11 @@ module _ (unit t n : ℕ) (s : List ℕ) where
   sheet-stops h = whole-stops (heading unit t n) (λ q. times q (block (lastDisk n))) s 0 h
 
 -- the blocks of a sheet whose heading was accepted
-pub answered-sheet : (unit t n : ℕ) (s : List ℕ) {q e high : ℕ} {r : Request} → heading unit t n s 0 ≡ got q e → high ≡ lastDisk n → Answered (length s) (whole (times q (block high)) s e) r → Answered (length s) (requestSheet unit t n s 0) r
+pub answered-sheet : (unit t n : ℕ) (s : List ℕ) {q e high : ℕ} {r : Request} → heading unit t n s 0 ≡ got q e → high ≡ lastDisk n
+    → Answered (length s) (whole (times q (block high)) s e) r → Answered (length s) (requestSheet unit t n s 0) r
 answered-sheet unit t n s {q} {e} {high} {r} h l a =
-    subst (λ (x : Out (List ℕ)). Answered (length s) x r) (ap (λ (k : ℕ). whole (times q (block k)) s e) l ∙ sym (sheet-next unit t n s h)) a
+    subst (λ (x : Out (List ℕ)). Answered (length s) x r) (ap (λ (k : ℕ). whole (times q (block k)) s e) l
+    ∙ sym (sheet-next unit t n s h)) a
 
 -- what an accepted sheet says of its two parts
 pub record Whole (unit t n : ℕ) (s ms : List ℕ) (e : ℕ) : Type 0 where
@@ -266,8 +283,10 @@ pub record Whole (unit t n : ℕ) (s ms : List ℕ) (e : ℕ) : Type 0 where
 pub sheet-got : (unit t n : ℕ) (s ms : List ℕ) (e : ℕ) → requestSheet unit t n s 0 ≡ got ms e → Whole unit t n s ms e
 unfolding requestSheet
 sheet-got unit t n s ms e h =
-    let w : ((heading unit t n >>= λ q. times q (block (lastDisk n))) s 0 ≡ got ms e) × (e ≡ length s) = whole-got (heading unit t n >>= λ q. times q (block (lastDisk n))) s ms e h in
-    let f : Step (heading unit t n s 0) (λ q j. times q (block (lastDisk n)) s j) ms e = bind-got (heading unit t n) s 0 ms e (λ q. times q (block (lastDisk n))) (w .0) in
+    let w : ((heading unit t n >>= λ q. times q (block (lastDisk n))) s 0 ≡ got ms e)
+    × (e ≡ length s) = whole-got (heading unit t n >>= λ q. times q (block (lastDisk n))) s ms e h in
+    let f : Step (heading unit t n s 0) (λ q j. times q (block (lastDisk n)) s j) ms e =
+    bind-got (heading unit t n) s 0 ms e (λ q. times q (block (lastDisk n))) (w .0) in
     record {
       count = f .found;
       mid = f .mid;

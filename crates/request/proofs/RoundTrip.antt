@@ -51,7 +51,8 @@ module _ (n : ℕ) (known : n ≡ 0 → ⊥) (within : n ≤ 64) where
       (reads-bind _ (reads-number (length (disksOf m)) (omega arith))
       (reads-tested (reads-require 7 (ap not (ne-eqb (length (disksOf m)) 0 some)))
       (reads-tested (reads-require 6 (le-leb (length (disksOf m)) 8 few))
-      (reads-checked _ (reads-ascending (lastDisk n) (omega (arith, last-le n)) 0 (disksOf m) (disks-rise (lastDisk n) m (last-le n) top)) (reads-pure (maskOf (disksOf m)))))))
+      (reads-checked _ (reads-ascending (lastDisk n) (omega (arith, last-le n)) 0 (disksOf m) (disks-rise (lastDisk n) m (last-le n) top))
+      (reads-pure (maskOf (disksOf m)))))))
 
   reads-heading : (unit t q : ℕ) → unit < 2 ^ 32 → t < 2 ^ 32 → 0 < t → q ≤ 1024 → Reads (heading unit t n) (headingBytes unit t q) q
   unfolding heading headingBytes
@@ -59,7 +60,8 @@ module _ (n : ℕ) (known : n ≡ 0 → ⊥) (within : n ≤ 64) where
       reads-then (reads-opening 2 unit t (omega arith) hu pt ht)
       (reads-tested (reads-require 10 (lt-ltb 0 n (omega (arith, known)))) (reads-inside 0 1024 q (omega arith) hq (omega arith)))
 
-pub read-written : (unit t n : ℕ) (ms bs : List ℕ) → unit < 2 ^ 32 → t < 2 ^ 32 → requestDraft unit t n ms ≡ sheet bs → requestSheet unit t n bs 0 ≡ got ms (length bs)
+pub read-written : (unit t n : ℕ) (ms bs : List ℕ) → unit < 2 ^ 32 → t < 2 ^ 32 → requestDraft unit t n ms ≡ sheet bs
+    → requestSheet unit t n bs 0 ≡ got ms (length bs)
 unfolding requestSheet requestBytes
 read-written unit t n ms bs hu ht h =
     let d : Drafted unit t n ms bs = drafted unit t n ms bs h in
@@ -77,10 +79,16 @@ module _ (s : List ℕ) (bytes : Bytes s) (n : ℕ) (known : n ≡ 0 → ⊥) (w
   block-spelt at m e h =
       let w : Listed (lastDisk n) s at m e = block-got (lastDisk n) s at m e h in
       let a : Spelt s at (w .mid) (encode (w .count)) × (w .count < 2 ^ 32) = number-spelt s at (w .count) (w .mid) bytes (w .first) in
-      let b : Spelt s (w .mid) e (spellAll encode (w .disks)) × (length (w .disks) ≡ w .count) × Rises 0 (lastDisk n) (w .disks) = ascending-spelt (lastDisk n) s bytes (w .count) 0 (w .mid) (w .disks) e (a .0 .within) (w .rest) in
+      let b : Spelt s (w .mid) e (spellAll encode (w .disks)) × (length (w .disks) ≡ w .count)
+      × Rises 0 (lastDisk n) (w .disks) =
+      ascending-spelt (lastDisk n) s bytes (w .count) 0 (w .mid) (w .disks) e (a .0 .within) (w .rest) in
       let same : disksOf m ≡ w .disks = ap disksOf (sym (w .sum)) ∙ disks-mask (lastDisk n) (w .disks) (last-le n) (b .2) in
-      let joined : Spelt s at e (encode (length (w .disks)) ++ spellAll encode (w .disks)) = subst (λ (k : ℕ). Spelt s at e (encode k ++ spellAll encode (w .disks))) (sym (b .1)) (spelt-join (a .0) (b .0)) in
-      (subst (λ (ds : List ℕ). Spelt s at e (encode (length ds) ++ spellAll encode ds)) (sym same) joined, block-sendable n known within s at m e h)
+      let joined : Spelt s at e (encode (length (w .disks)) ++ spellAll encode (w .disks)) =
+      subst (λ (k : ℕ). Spelt s at e (encode k ++ spellAll encode (w .disks))) (sym (b .1)) (spelt-join (a .0) (b .0)) in (
+        subst (λ (ds : List ℕ). Spelt s at e (encode (length ds) ++ spellAll encode ds)) (sym same) joined,
+        block-sendable n
+            known within s at m e h,
+      )
 
   heading-spelt : (unit t q e : ℕ) → Headed unit t n s q e → Spelt s 0 e (headingBytes unit t q) × (0 < t) × (q ≤ 1024)
   unfolding headingBytes
@@ -89,15 +97,21 @@ module _ (s : List ℕ) (bytes : Bytes s) (n : ℕ) (known : n ≡ 0 → ⊥) (w
       let g : Spelt s (h .mid) e (encode q) × (0 ≤ q) × (q ≤ 1024) = inside-spelt s (h .mid) q e bytes 0 1024 (h .last) in
       (spelt-join (f .0) (g .0), f .1, g .2)
 
-pub write-read : (unit t n : ℕ) (s ms : List ℕ) (e : ℕ) → Bytes s → n ≤ 64 → requestSheet unit t n s 0 ≡ got ms e → requestDraft unit t n ms ≡ sheet s
+pub write-read : (unit t n : ℕ) (s ms : List ℕ) (e : ℕ) → Bytes s → n ≤ 64 → requestSheet unit t n s 0 ≡ got ms e
+    → requestDraft unit t n ms ≡ sheet s
 unfolding requestBytes
 write-read unit t n s ms e b l h =
     let w : Whole unit t n s ms e = sheet-got unit t n s ms e h in
     let known : n ≡ 0 → ⊥ = λ z. (let p : 0 < n = ltb-true 0 n (w .headed .known) in omega arith) in
-    let i : Spelt s 0 (w .mid) (headingBytes unit t (w .count)) × (0 < t) × (w .count ≤ 1024) = heading-spelt s b n known l unit t (w .count) (w .mid) (w .headed) in
-    let j : Spelt s (w .mid) e (spellAll blockBytes ms) × (length ms ≡ w .count) × All (Sendable n) ms = times-spelt (block (lastDisk n)) blockBytes (Sendable n) s (block-spelt s b n known l) (w .count) (w .mid) ms e (i .0 .within) (w .rest) in
-    let joined : Spelt s 0 e (headingBytes unit t (length ms) ++ spellAll blockBytes ms) = subst (λ (k : ℕ). Spelt s 0 e (headingBytes unit t k ++ spellAll blockBytes ms)) (sym (j .1)) (spelt-join (i .0) (j .0)) in
-    draft-of unit t n ms (λ z. omega (arith, i .1)) known l (omega (arith, i .2, j .1)) ∙ checked-pass n ms _ (j .2) ∙ ap sheet (sym (spelt-whole s e _ (w .ends) joined))
+    let i : Spelt s 0 (w .mid) (headingBytes unit t (w .count)) × (0 < t)
+    × (w .count ≤ 1024) = heading-spelt s b n known l unit t (w .count) (w .mid) (w .headed) in
+    let j : Spelt s (w .mid) e (spellAll blockBytes ms) × (length ms ≡ w .count)
+    × All (Sendable n) ms = times-spelt (block (lastDisk n)) blockBytes (Sendable n) s (block-spelt s b n known l) (w .count) (w .mid)
+    ms e (i .0 .within) (w .rest) in
+    let joined : Spelt s 0 e (headingBytes unit t (length ms) ++ spellAll blockBytes ms) =
+    subst (λ (k : ℕ). Spelt s 0 e (headingBytes unit t k ++ spellAll blockBytes ms)) (sym (j .1)) (spelt-join (i .0) (j .0)) in
+    draft-of unit t n ms (λ z. omega (arith, i .1)) known l (omega (arith, i .2, j .1)) ∙ checked-pass n ms _ (j .2)
+    ∙ ap sheet (sym (spelt-whole s e _ (w .ends) joined))
 
 -- ---- the longest request
 

@@ -24,7 +24,8 @@ use Rattle.request.proofs.Writing.{block-length}
 
 -- ---- disks at N or above
 
-module _ (n m known rest : ℕ) (l : n ≤ 64) (b : Below n known) (h : m < 2 ^ 64) (w : (e : ℕ) → has rest e ≡ (has m e && not (has known e))) where
+module _ (n m known rest : ℕ) (l : n ≤ 64) (b : Below n known) (h : m < 2 ^ 64)
+    (w : (e : ℕ) → has rest e ≡ (has m e && not (has known e))) where
   beyond : (e : ℕ) → n ≤ e → has rest e ≡ has m e
   beyond e g = w e ∙ ap (λ (t : Bool). has m e && not t) (b .holds l e ∙ le-ltb e n g) ∙ and-true (has m e)
 
@@ -59,7 +60,12 @@ module _ (n : ℕ) (ms : List ℕ) (total i : ℕ) (c : Counting n ms total i) w
   counting-done b h =
       let e : i ≡ length ms = omega (arith, c .within) in
       let z : drop i ms ≡ [] = ap (λ (k : ℕ). drop k ms) e ∙ drop-length ms in (
-        record { count = b; bytes = omega (arith, c .sum, ap (λ (x : List ℕ). length (spellAll blockBytes x)) z); small = omega (arith, c .small, e) },
+        record {
+          count = b;
+          bytes = omega (arith, c .sum, ap (λ (x : List ℕ). length (spellAll blockBytes x)) z);
+          small =
+              omega (arith, c .small, e);
+        },
         λ d. c .same d ∙ ap (λ (x : List ℕ). checked n x d) z,
       )
 
@@ -82,7 +88,8 @@ module _ (n : ℕ) (ms : List ℕ) (total i : ℕ) (c : Counting n ms total i) w
       module _ (few : members 64 m ≤ 8) where
         pub counting-high : 2 ^ n ≤ m → (d : Draft) → checked n ms d ≡ none 6
         unfolding checked
-        counting-high g d = at-block d ∙ pick-false _ _ (ne-eqb m 0 some) ∙ pick-false _ _ (le-ltb 8 (members 64 m) few) ∙ pick-true _ _ (le-leb (2 ^ n) m g)
+        counting-high g d = at-block d ∙ pick-false _ _ (ne-eqb m 0 some) ∙ pick-false _ _ (le-ltb 8 (members 64 m) few)
+            ∙ pick-true _ _ (le-leb (2 ^ n) m g)
 
         pub counting-step : (k : ℕ) → k ≡ members 64 m → m < 2 ^ n → Counting n ms (total + (1 + k)) (i + 1)
         unfolding checked spellAll
@@ -100,6 +107,7 @@ module _ (n : ℕ) (ms : List ℕ) (total i : ℕ) (c : Counting n ms total i) w
                 block-length m,
                 ap (λ (x : List ℕ). length (spellAll blockBytes x)) e,
               );
-              same = λ d. at-block d ∙ pick-false _ _ (ne-eqb m 0 some) ∙ pick-false _ _ (le-ltb 8 (members 64 m) few) ∙ pick-false _ _ (lt-leb (2 ^ n) m g)
+              same = λ d. at-block d ∙ pick-false _ _ (ne-eqb m 0 some) ∙ pick-false _ _ (le-ltb 8 (members 64 m) few)
+                  ∙ pick-false _ _ (lt-leb (2 ^ n) m g)
                   ∙ ap (λ (x : List ℕ). checked n x d) e;
             }

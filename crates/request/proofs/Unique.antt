@@ -26,9 +26,12 @@ same-request : (r r′ : Request) → r .answer ≡ r′ .answer → r .copies �
 same-request r r′ a c = let made : Answer → List ℕ → Request = λ x y. record { answer = x; copies = y } in ap₂ made a c
 
 -- `read`: the answer and the copies
-pub read-unique : (unit t n : ℕ) (s : List ℕ) (len : ℕ) (r r′ : Request) → Answered len (requestSheet unit t n s 0) r → Answered len (requestSheet unit t n s 0) r′ → r ≡ r′
-read-unique unit t n s len r r′ p q = same-request r r′ (answer-injective len (r .answer) (r′ .answer) (p .told ∙ sym (q .told))) (p .held ∙ sym (q .held))
+pub read-unique : (unit t n : ℕ) (s : List ℕ) (len : ℕ) (r r′ : Request) → Answered len (requestSheet unit t n s 0) r
+    → Answered len (requestSheet unit t n s 0) r′ → r ≡ r′
+read-unique unit t n s len r r′ p q = same-request r r′ (answer-injective len (r .answer) (r′ .answer) (p .told ∙ sym (q .told)))
+    (p .held ∙ sym (q .held))
 
 -- `write`: the answer and the buffer
-pub write-unique : (unit t n : ℕ) (ms out : List ℕ) (a b : Written) (x y : List ℕ) → Sent (requestDraft unit t n ms) out a x → Sent (requestDraft unit t n ms) out b y → (a ≡ b) × (x ≡ y)
+pub write-unique : (unit t n : ℕ) (ms out : List ℕ) (a b : Written) (x y : List ℕ) → Sent (requestDraft unit t n ms) out a x
+    → Sent (requestDraft unit t n ms) out b y → (a ≡ b) × (x ≡ y)
 write-unique unit t n ms out a b x y p q = sent-unique (requestDraft unit t n ms) out a b x y p q

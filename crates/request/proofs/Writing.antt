@@ -36,7 +36,8 @@ module _ (m : ℕ) where
   pub disks-out : (d : ℕ) → has m d ≡ false → spellAll encode (disksBelow (suc d) m) ≡ spellAll encode (disksBelow d m)
   unfolding disksBelow
   disks-out d h =
-      ap (λ (x : List ℕ). spellAll encode (disksBelow d m ++ x)) (pick-false (d ∷ []) [] h) ∙ ap (spellAll encode) (append-nil (disksBelow d m))
+      ap (λ (x : List ℕ). spellAll encode (disksBelow d m ++ x)) (pick-false (d ∷ []) [] h)
+      ∙ ap (spellAll encode) (append-nil (disksBelow d m))
 
   -- each disk below 128 is one byte
   pub disks-length : (n : ℕ) → n ≤ 128 → length (spellAll encode (disksBelow n m)) ≡ members n m
@@ -62,9 +63,11 @@ module _ (m : ℕ) where
   -- fewer places hold no more disks
   members-mono : (d k : ℕ) → members d m ≤ members (d + k) m
   unfolding members
-  members-mono d zero = let e : members (d + 0) m ≡ members d m = ap (λ (k : ℕ). members k m) {x = d + 0} {y = d} (omega arith) in omega arith
+  members-mono d zero = let e : members (d + 0) m ≡ members d m = ap (λ (k : ℕ). members k m) {x = d + 0} {y = d} (omega arith) in
+      omega arith
   members-mono d (suc k) =
-      let e : members (d + suc k) m ≡ members (d + k) m + bit (has m (d + k)) = ap (λ (k : ℕ). members k m) {x = d + suc k} {y = suc (d + k)} (omega arith) in
+      let e : members (d + suc k) m ≡ members (d + k) m + bit (has m (d + k)) =
+      ap (λ (k : ℕ). members k m) {x = d + suc k} {y = suc (d + k)} (omega arith) in
       omega (arith, members-mono d k)
 
   module _ {out : List ℕ} {at : ℕ} (d : ℕ) {mid : List ℕ} {p : ℕ} (w : Laid out at (spellAll encode (disksBelow d m)) mid p) where
@@ -73,7 +76,8 @@ module _ (m : ℕ) where
     disk-in {next} {after} t l room f =
         let one : widthOf d ≡ 1 = width-one d (omega arith) in
         let more : members (suc d) m ≤ members (suc d + (64 - suc d)) m = members-mono (suc d) (64 - suc d) in
-        let all : members (suc d + (64 - suc d)) m ≡ members 64 m = ap (λ (k : ℕ). members k m) {x = suc d + (64 - suc d)} {y = 64} (omega arith) in
+        let all : members (suc d + (64 - suc d)) m
+        ≡ members 64 m = ap (λ (k : ℕ). members k m) {x = suc d + (64 - suc d)} {y = 64} (omega arith) in
         let e : spellAll encode (disksBelow d m) ++ encode d ≡ spellAll encode (disksBelow (d + 1) m) =
         sym (disks-in d t) ∙ ap (λ (k : ℕ). spellAll encode (disksBelow k m)) {x = suc d} {y = d + 1} (omega arith) in
         subst (λ (x : List ℕ). Laid out at x after next) e

@@ -2,3 +2,4 @@ pub mod Disks
 pub mod Request
 pub mod Told
 pub mod Draft
+pub mod Parts

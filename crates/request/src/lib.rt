@@ -4,7 +4,8 @@ use field::Refusal;
 use field::Written;
 ghost use mathlib.Core.Path.{_≡_};
 ghost use Prim.Native.Nat.{ℕ, _+_, _^_, _≤_, _<_};
-ghost use lib.ListN.{length};
+ghost use lib.ListN.{length, getD};
+ghost use Rattle.basics.specs.Limits.{disksMost, blocksMost};
 ghost use Rattle.number.specs.Encode.{encode};
 ghost use Rattle.field.specs.Field.{ascending, whole};
 ghost use Rattle.field.specs.Put.{spellAll, Laid};
@@ -14,6 +15,7 @@ ghost use Rattle.field.specs.Sheet.{refused, times};
 ghost use Rattle.field.specs.Told.{told};
 ghost use Rattle.request.specs.Disks.{disksOf};
 ghost use Rattle.request.specs.Draft.{blockBytes, headingBytes, requestBytes, requestDraft, Counted, Sized};
+ghost use Rattle.request.specs.Parts.{Beyond};
 ghost use Rattle.request.specs.Request.{lastDisk, block, heading, requestSheet};
 ghost use Rattle.request.specs.Told.{toldCopies, Answered, masked};
 
@@ -48,26 +50,55 @@ fn last(disks: u32) -> u32
     disks - 1
 }
 
-// So many disk numbers, each above the one before it, put into m.
-fn gather(s: &[u8], at: usize, left: u32, floor: u32, high: u32, m: u64) -> Copies
-    requires { ⌜ (high ≤ 63) × (m < 2 ^ floor) ⌝ }
-    ensures { λ r. ⌜ toldCopies r ≡ masked m (ascending left floor high (now (s .entry)) at) ⌝ }
+// A byte as a wider number.
+fn wide(b: u8) -> u32
+    ensures { λ r. ⌜ r ≡ b ⌝ }
 {
-    if left == 0 {
-        return Copies::Got(m, at);
-    }
-    match field::risen(s, at, floor, high) {
-        Field::Got(d, next) => {
-            let more = mask::set(m, d as usize);
-            gather(s, next, left - 1, d + 1, high, more)
-        }
+    b as u32
+}
+
+// Why a byte above the last disk is no disk's number.
+fn not_disk(s: &[u8], at: usize, high: u32) -> Copies
+    requires { ⌜ (high < disksMost) × (at < length (now s)) × (high < getD (now s) at 0) ⌝ }
+    ensures { λ r. ⌜ Beyond high (now (s .entry)) at r ⌝ }
+{
+    match field::any(s, at) {
+        Field::Got(_, _) => Copies::Refused(Refusal::OutOfRange),
         Field::Refused(e) => Copies::Refused(e),
     }
 }
 
+// So many disk numbers, each above the one before it, as one number. A disk's number is one byte.
+fn gather(s: &[u8], at: usize, k: u32, high: u32) -> Copies
+    requires { ⌜ high < disksMost ⌝ }
+    ensures { λ r. ⌜ toldCopies r ≡ masked 0 (ascending k 0 high (now (s .entry)) at) ⌝ }
+{
+    let mut m: u64 = 0;
+    let mut floor: u32 = 0;
+    let mut p = at;
+    let mut left = k;
+    while 0 < left {
+        if s.len() <= p {
+            return Copies::Refused(Refusal::SheetEnds);
+        }
+        let d = wide(s[p]);
+        if high < d {
+            return not_disk(s, p, high);
+        }
+        if d < floor {
+            return Copies::Refused(Refusal::NotRising);
+        }
+        m = mask::set(m, d as usize);
+        floor = d + 1;
+        p += 1;
+        left -= 1;
+    }
+    Copies::Got(m, p)
+}
+
 // One block at a place: its copy count, and its disks up to the last one.
 fn one_block(s: &[u8], at: usize, high: u32) -> Copies
-    requires { ⌜ high ≤ 63 ⌝ }
+    requires { ⌜ high < disksMost ⌝ }
     ensures { λ r. ⌜ toldCopies r ≡ block high (now (s .entry)) at ⌝ }
 {
     match field::any(s, at) {
@@ -78,7 +109,7 @@ fn one_block(s: &[u8], at: usize, high: u32) -> Copies
             if 8 < k {
                 return Copies::Refused(Refusal::OutOfRange);
             }
-            gather(s, next, k, 0, high, 0)
+            gather(s, next, k, high)
         }
         Field::Refused(e) => Copies::Refused(e),
     }
@@ -97,7 +128,7 @@ fn refuse(e: Refusal) -> Request
 
 // The blocks from a place on, and the end of the sheet.
 fn blocks(s: &[u8], at: usize, q: usize, high: u32) -> Request
-    requires { ⌜ (q ≤ 1024) × (high ≤ 63) ⌝ }
+    requires { ⌜ (q ≤ blocksMost) × (high < disksMost) ⌝ }
     ensures { λ r. ⌜ Answered (length (now (s .entry))) (whole (times q (block high)) (now (s .entry)) at) r ⌝ }
 {
     let mut copies = [0u64; 1024];

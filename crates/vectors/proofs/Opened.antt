@@ -26,8 +26,8 @@ use Rattle.unit.specs.Life.{takes, refuses, rent, settled, set, giveBack}
 use Rattle.unit.specs.Request.{Replied}
 use Rattle.unit.specs.Unit.{newUnit, tenancyOf, tenanted, withTable, returned}
 use Rattle.desk.specs.Desk.{settingsDraftOfBytes, requestDraftOfBytes, planOf, setLeft}
-use Rattle.desk.specs.Numbers.{valueOf, bytesOf, firstNumbers, numbers, broken}
-use Rattle.desk.specs.Packed.{packPlan, readerAnswer}
+use Rattle.lent.specs.Numbers.{valueOf, bytesOf, firstNumbers, numbers, broken}
+use Rattle.lent.specs.Packed.{packPlan, readerAnswer}
 use Rattle.line.specs.Text.{digit, digitsBy, decimal, spaced, pair, hex}
 use Rattle.line.specs.Line.{feed, word-returned, word-refused, word-stopped, word-plan, bar, spoken, planText, planLine, sheetLine}
 use Rattle.stream.specs.Frame.{sheet, bytes as framed}

@@ -17,7 +17,8 @@ slice-aggregate-put-pairs : tie.Need-slice-aggregate-put-pairs
 slice-aggregate-put-pairs c =
     let at-read = c .before .before .before .before .before .before .before in
     let at-room = at-read .before .before .before in
-    sym (length-front {A = ℕ} (replicate 1024 0) (at-read .read .last .1 .1 .1 .1 .0) (at-room .room .result) (at-read .read .kept .1 .1 .1 .1 .0))
+    sym (length-front {A = ℕ} (replicate 1024 0) (at-read .read .last .1 .1 .1 .1 .0) (at-room .room .result)
+    (at-read .read .kept .1 .1 .1 .1 .0))
 
 put-pairs-requires : tie.Need-put-pairs-requires
 unfolding Bytes
@@ -25,7 +26,8 @@ put-pairs-requires c κs =
     let at-read = c .before .before .before .before .before .before .before .before in
     let at-room = at-read .before .before .before in
     let at-start = at-room .before .before .before .before .before in
-    let bytes : Bytes (at-room .before .before .before .before .before .args .sheet .now) = λ i. at-room .before .before .before .before .shared-slice-known .given i .fits in
+    let bytes : Bytes (at-room .before .before .before .before .before .args .sheet .now) =
+    λ i. at-room .before .before .before .before .shared-slice-known .given i .fits in
     pairs-fit (replicate 1024 0) (at-read .read .last .1 .1 .1 .1 .0) (at-start .args .short .now) (at-room .room .result)
     (accepted bytes (at-read .read .ensures) (c .before .before .before .h .given .1))
     (at-room .room .ensures) (at-room .room .ensures .within) (at-read .read .kept .1 .1 .1 .1 .0)
@@ -35,7 +37,8 @@ unfolding Bytes
 pack-plan-requires c κs =
     let at-read = c .before .before .before .before .before .before .before .before .before .before .before in
     let at-room = at-read .before .before .before in
-    let bytes : Bytes (at-room .before .before .before .before .before .args .sheet .now) = λ i. at-room .before .before .before .before .shared-slice-known .given i .fits in
+    let bytes : Bytes (at-room .before .before .before .before .before .args .sheet .now) =
+    λ i. at-room .before .before .before .before .shared-slice-known .given i .fits in
     plans-small
     (accepted bytes (at-read .read .ensures) (c .before .before .before .before .before .before .h .given .1))
 
@@ -45,10 +48,12 @@ returns c =
     let at-read = c .before .before .before .before .before .before .before .before .before .before .before .before in
     let at-room = at-read .before .before .before in
     let at-start = at-room .before .before .before .before .before in
-    let bytes : Bytes (at-room .before .before .before .before .before .args .sheet .now) = λ i. at-room .before .before .before .before .shared-slice-known .given i .fits in
+    let bytes : Bytes (at-room .before .before .before .before .before .args .sheet .now) =
+    λ i. at-room .before .before .before .before .shared-slice-known .given i .fits in
     read-accepted bytes (at-read .read .ensures)
     (at-start .args .short .now) (at-read .read .last .1 .1 .1 .1 .0 ++ drop (at-room .room .result) (replicate 1024 0))
-    (c .before .before .before .before .before .before .before .h .given .1) (room-part (replicate 1024 0) (at-room .room .ensures) (at-room .room .ensures .within))
+    (c .before .before .before .before .before .before .before .h .given .1)
+    (room-part (replicate 1024 0) (at-room .room .ensures) (at-room .room .ensures .within))
     (take-at _ _ _ (at-read .read .kept .1 .1 .1 .1 .0))
     (c .pack-plan .ensures _) (c .before .before .before .put-pairs .ensures)
 
@@ -58,7 +63,8 @@ returns-2 c =
     let at-read = c .before .before .before .before .before .before .before in
     let at-room = at-read .before .before .before in
     let at-start = at-room .before .before .before .before .before in
-    let bytes : Bytes (at-room .before .before .before .before .before .args .sheet .now) = λ i. at-room .before .before .before .before .shared-slice-known .given i .fits in
+    let bytes : Bytes (at-room .before .before .before .before .before .args .sheet .now) =
+    λ i. at-room .before .before .before .before .shared-slice-known .given i .fits in
     read-refused bytes (at-read .read .ensures) (at-start .args .short .now) (c .before .before .e .given .1)
     (room-part (replicate 1024 0) (at-room .room .ensures) (at-room .room .ensures .within)) (c .number-of .ensures)
 

@@ -1,7 +1,7 @@
 -- `send_settings`: the parts that are lent hold the numbers of the bytes, and the sheet's writer does the rest.
 use borrow.Author.Needs.{needs}
 use Rattle.desk.proofs.Writing.{settings-sent}
-use Rattle.desk.proofs.Over.{part-numbers, part-count}
+use Rattle.lent.proofs.Over.{part-numbers, part-count}
 use Rattle.desk.proofs.send_settings.Statement.{statement}
 use Rattle.desk.proofs.send_settings.Tie as tie
 
@@ -15,7 +15,10 @@ slice-aggregate-write-3 : tie.Need-slice-aggregate-write-3
 slice-aggregate-write-3 c = part-count 4 _ _ _ (c .before .before .before .fours3 .ensures)
 
 returns : tie.Need-returns
-returns c = settings-sent _ _ (part-numbers 4 _ _ _ (c .before .before .before .before .before .before .before .before .before .fours .ensures)) (part-numbers 4 _ _ _ (c .before .before .before .before .before .before .before .before .fours2 .ensures)) (part-numbers 4 _ _ _ (c .before .before .before .before .before .before .before .fours3 .ensures)) (c .before .before .write .ensures)
+returns c = settings-sent _ _
+    (part-numbers 4 _ _ _ (c .before .before .before .before .before .before .before .before .before .fours .ensures))
+    (part-numbers 4 _ _ _ (c .before .before .before .before .before .before .before .before .fours2 .ensures))
+    (part-numbers 4 _ _ _ (c .before .before .before .before .before .before .before .fours3 .ensures)) (c .before .before .write .ensures)
 
 pub send-settings-spec : {M : Type 1} → statement M
 send-settings-spec =

@@ -1,7 +1,8 @@
 -- `blocks` meets its contract. The invariant is `Filled`: the first i blocks stand in the first i places, and the others are 0.
 use borrow.Author.Needs.{needs}
 use native.Mathlib.Omega.{arith}
-use Rattle.request.proofs.Reading.{Filled, filled-start, filled-step, filled-stop, filled-extra, filled-done, answered-of, copies-got, copies-refused}
+use Rattle.request.proofs.Reading.{Filled, filled-start, filled-step, filled-stop, filled-extra, filled-done, answered-of}
+use Rattle.request.proofs.Reading.{copies-got, copies-refused}
 use Rattle.field.proofs.Readers.{told-got, told-refused}
 use mathlib.Core.Path.{refl}
 use Prim.Native.Nat.{_-_}
@@ -20,50 +21,46 @@ loop-holds c = filled-start _ _ _ _
 one-block-requires : tie.Need-one-block-requires Inv-loop μ-loop
 one-block-requires c κs = c .before .before .before .pre .1
 
-enum-known-m : tie.Need-enum-known-m Inv-loop μ-loop
-enum-known-m c = search needs
-
 mul-copies : tie.Need-mul-copies Inv-loop μ-loop
-mul-copies c = omega (arith, c .before .before .before .before .loop-test .taken, c .before .before .before .before .before .before .before .pre .0)
+mul-copies c = omega
+    (arith, c .before .before .before .before .loop-test .taken, c .before .before .before .before .before .before .before .pre .0)
 
 array-write-copies : tie.Need-array-write-copies Inv-loop μ-loop
-array-write-copies c = omega (arith, c .before .before .before .before .loop-test .taken, c .before .before .before .before .before .before .before .pre .0)
-
-enum-known-e : tie.Need-enum-known-e Inv-loop μ-loop
-enum-known-e c = search needs
-
-refuse-requires : tie.Need-refuse-requires Inv-loop μ-loop
-refuse-requires c κs = search needs
+array-write-copies c =
+    omega (arith, c .before .before .before .before .loop-test .taken, c .before .before .before .before .before .before .before .pre .0)
 
 returns : tie.Need-returns Inv-loop μ-loop
-returns c = answered-of (filled-stop _ _ _ _ _ _ _ (c .before .before .before .before .before .before .loop .inv) (c .before .before .before .before .before .loop-test .taken) (copies-refused (c .before .before .before .before .one-block .ensures) (c .before .before .e .given .1))) (c .refuse .ensures _)
+returns c = answered-of
+    (filled-stop _ _ _ _ _ _ _ (c .before .before .before .before .before .before .loop .inv)
+    (c .before .before .before .before .before .loop-test .taken)
+    (copies-refused (c .before .before .before .before .one-block .ensures) (c .before .before .e .given .1))) (c .refuse .ensures _)
 
 add-i : tie.Need-add-i Inv-loop μ-loop
-add-i c = omega (arith, c .before .before .before .before .loop-test .taken, c .before .before .before .before .before .before .before .pre .0)
-
-loop-less : tie.Need-loop-less Inv-loop μ-loop
-loop-less c = search needs
+add-i c = omega (
+  arith,
+  c .before .before .before .before .loop-test .taken,
+  c .before .before .before .before .before
+      .before .before .pre .0,
+)
 
 loop-again : tie.Need-loop-again Inv-loop μ-loop
-loop-again c = filled-step _ _ _ _ _ _ _ (c .before .before .before .before .before .loop .inv) (c .before .before .before .before .loop-test .taken) (c .before .before .before .before .before .before .before .pre .0) (copies-got (c .before .before .before .one-block .ensures) (c .before .m .given .1))
-
-finish-requires : tie.Need-finish-requires Inv-loop μ-loop
-finish-requires c κs = search needs
+loop-again c = filled-step _ _ _ _ _ _ _ (c .before .before .before .before .before .loop .inv)
+    (c .before .before .before .before .loop-test .taken) (c .before .before .before .before .before .before .before .pre .0)
+    (copies-got (c .before .before .before .one-block .ensures) (c .before .m .given .1))
 
 enum-told : tie.Need-enum-told Inv-loop μ-loop
 enum-told c = search needs
 
-enum-known-e-2 : tie.Need-enum-known-e-2 Inv-loop μ-loop
-enum-known-e-2 c = search needs
-
-refuse-requires-2 : tie.Need-refuse-requires-2 Inv-loop μ-loop
-refuse-requires-2 c κs = search needs
-
 returns-2 : tie.Need-returns-2 Inv-loop μ-loop
-returns-2 c = filled-done _ _ _ _ _ _ _ (c .before .before .before .before .loop .inv) _ refl refl (c .before .before .before .loop-test .left) (c .before .before .before .before .before .before .pre .0) (told-got (c .before .before .finish .ensures) (c .enum-told .given .1))
+returns-2 c = filled-done _ _ _ _ _ _ _ (c .before .before .before .before .loop .inv) _ refl refl
+    (c .before .before .before .loop-test .left) (c .before .before .before .before .before .before .pre .0)
+    (told-got (c .before .before .finish .ensures) (c .enum-told .given .1))
 
 returns-3 : tie.Need-returns-3 Inv-loop μ-loop
-returns-3 c = answered-of (filled-extra _ _ _ _ _ _ _ (c .before .before .before .before .before .before .loop .inv) (c .before .before .before .before .before .loop-test .left) (told-refused (c .before .before .before .before .finish .ensures) (c .before .before .e2 .given .1))) (c .refuse2 .ensures _)
+returns-3 c = answered-of
+    (filled-extra _ _ _ _ _ _ _ (c .before .before .before .before .before .before .loop .inv)
+    (c .before .before .before .before .before .loop-test .left)
+    (told-refused (c .before .before .before .before .finish .ensures) (c .before .before .e2 .given .1))) (c .refuse2 .ensures _)
 
 pub blocks-spec : {M : Type 1} → statement M
 blocks-spec =
@@ -73,18 +70,18 @@ blocks-spec =
     μ-loop
     loop-holds
     one-block-requires
-    enum-known-m
+    (λ c. search needs)
     mul-copies
     array-write-copies
-    enum-known-e
-    refuse-requires
+    (λ c. search needs)
+    (λ c κs. search needs)
     returns
     add-i
-    loop-less
+    (λ c. search needs)
     loop-again
-    finish-requires
+    (λ c κs. search needs)
     enum-told
-    enum-known-e-2
-    refuse-requires-2
+    (λ c. search needs)
+    (λ c κs. search needs)
     returns-2
     returns-3)

@@ -10,14 +10,20 @@ use Rattle.request.proofs.one_block.Tie as tie
 
 returns : tie.Need-returns
 unfolding toldCopies numberOf
-returns c = sym (block-none _ _ _ _ _ (told-got (c .before .before .before .before .any .ensures) (c .before .before .k .given .1)) (c .if1 .taken))
+returns c = sym (block-none _ _ _ _ _
+    (told-got (c .before .before .before .before .any .ensures) (c .before .before .k .given .1)) (c .if1 .taken))
 
 returns-2 : tie.Need-returns-2
 unfolding toldCopies numberOf
-returns-2 c = sym (block-many _ _ _ _ _ (told-got (c .before .before .before .before .before .any .ensures) (c .before .before .before .k .given .1)) (c .before .if1 .left) (c .if2 .taken))
+returns-2 c = sym (block-many _ _ _ _ _
+    (told-got (c .before .before .before .before .before .any .ensures) (c .before .before .before .k .given .1))
+    (c .before .if1 .left) (c .if2 .taken))
 
 returns-3 : tie.Need-returns-3
-returns-3 c = c .gather .ensures ∙ sym (block-of _ _ _ _ _ (told-got (c .before .before .before .before .before .before .any .ensures) (c .before .before .before .before .k .given .1)) (c .before .before .if1 .left) (c .before .if2 .left))
+returns-3 c = c .gather .ensures
+    ∙ sym (block-of _ _ _ _ _
+    (told-got (c .before .before .before .before .before .before .any .ensures) (c .before .before .before .before .k .given .1))
+    (c .before .before .if1 .left) (c .before .if2 .left))
 
 returns-4 : tie.Need-returns-4
 unfolding toldCopies

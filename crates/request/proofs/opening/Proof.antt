@@ -22,7 +22,8 @@ returns-2 c = let found = c .before .before in
 
 returns-3 : tie.Need-returns-3
 returns-3 c = let found = c .before .before .before in
-    c .ranged .ensures ∙ sym (heading-count _ _ _ _ (told-got (found .before .before .opening .ensures) (found .found .given .1)) (c .before .if1 .left))
+    c .ranged .ensures ∙ sym
+    (heading-count _ _ _ _ (told-got (found .before .before .opening .ensures) (found .found .given .1)) (c .before .if1 .left))
 
 pub opening-spec : {M : Type 1} → statement M
 opening-spec =

@@ -5,10 +5,14 @@ use Rattle.request.proofs.put_block.Statement.{statement}
 use Rattle.request.proofs.put_block.Tie as tie
 
 put-disks-requires : tie.Need-put-disks-requires
-put-disks-requires c κs = block-room _ (c .before .before .before .before .before .count .ensures) (c .before .before .before .before .before .before .before .pre) (c .before .before .before .put .ensures)
+put-disks-requires c κs =
+    block-room _ (c .before .before .before .before .before .count .ensures)
+    (c .before .before .before .before .before .before .before .pre) (c .before .before .before .put .ensures)
 
 returns : tie.Need-returns
-returns c = block-put _ (c .before .before .before .before .before .before .before .before .count .ensures) (c .before .before .before .before .before .before .before .before .before .before .pre) (c .before .before .before .before .before .before .put .ensures) (c .before .before .put-disks .ensures)
+returns c = block-put _ (c .before .before .before .before .before .before .before .before .count .ensures)
+    (c .before .before .before .before .before .before .before .before .before .before .pre)
+    (c .before .before .before .before .before .before .put .ensures) (c .before .before .put-disks .ensures)
 
 pub put-block-spec : {M : Type 1} → statement M
 put-block-spec =

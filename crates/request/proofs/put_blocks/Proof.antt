@@ -27,16 +27,17 @@ shared-slice-read-put-block : tie.Need-shared-slice-read-put-block Inv-loop μ-l
 shared-slice-read-put-block c = search needs
 
 put-block-requires : tie.Need-put-block-requires Inv-loop μ-loop
-put-block-requires c κs = spell-room blockBytes _ _ 0 (c .before .before .loop-test .taken) (c .before .before .before .loop .inv .2) (c .before .before .before .loop .inv .1)
-
-add-i : tie.Need-add-i Inv-loop μ-loop
-add-i c = search needs
-
-loop-less : tie.Need-loop-less Inv-loop μ-loop
-loop-less c = search needs
+put-block-requires c κs = spell-room blockBytes _ _ 0 (c .before .before .loop-test .taken) (c .before .before .before .loop .inv .2)
+    (c .before .before .before .loop .inv .1)
 
 loop-again : tie.Need-loop-again Inv-loop μ-loop
-loop-again c = (omega (arith, c .before .before .before .before .before .loop-test .taken), c .before .before .before .before .before .before .loop .inv .1, blocks-more _ _ (c .before .before .before .before .before .loop-test .taken) (c .before .before .before .before .before .before .loop .inv .2) (c .before .before .put-block .ensures))
+loop-again c = (
+  omega (arith, c .before .before .before .before .before .loop-test .taken),
+  c .before .before .before .before .before
+      .before .loop .inv .1,
+  blocks-more _ _ (c .before .before .before .before .before .loop-test .taken)
+      (c .before .before .before .before .before .before .loop .inv .2) (c .before .before .put-block .ensures),
+)
 
 same-length : tie.Need-same-length Inv-loop μ-loop
 same-length c = laid-length (c .before .loop .inv .2)
@@ -51,11 +52,11 @@ put-blocks-spec =
     Inv-loop
     μ-loop
     loop-holds
-    mul-put-block
-    shared-slice-read-put-block
+    (λ c. search needs)
+    (λ c. search needs)
     put-block-requires
-    add-i
-    loop-less
+    (λ c. search needs)
+    (λ c. search needs)
     loop-again
     same-length
     returns)

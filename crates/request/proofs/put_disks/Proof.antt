@@ -57,11 +57,11 @@ put-disks-spec =
     Inv-loop
     μ-loop
     loop-holds
-    cast-test
-    test-requires
-    put-requires
-    add-d
-    loop-less
+    (λ c. search needs)
+    (λ c κs. search needs)
+    (λ c κs. search needs)
+    (λ c. search needs)
+    (λ c. search needs)
     loop-again
     same-length
     returns)

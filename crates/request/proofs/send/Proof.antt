@@ -19,38 +19,64 @@ add-length-2 c = let at = c .before .before .before .before in
 
 add-length-3 : tie.Need-add-length-3
 add-length-3 c = let at = c .before .before .before .before .before in
-    omega (arith, c .width3 .ensures, c .before .width2 .ensures, c .before .before .width .ensures, width-bounds (at .args .unit), width-bounds (at .args .tenancy), width-bounds (length (at .args .copies .now)))
+    omega (
+      arith,
+      c .width3 .ensures,
+      c .before .width2 .ensures,
+      c .before .before .width .ensures,
+      width-bounds (at .args .unit),
+      width-bounds (at .args .tenancy),
+      width-bounds (length (at .args .copies .now)),
+    )
 
 add-length-4 : tie.Need-add-length-4
 add-length-4 c = let at = c .before .before .before .before .before in
-    omega (arith, c .width3 .ensures, c .before .width2 .ensures, c .before .before .width .ensures, width-bounds (at .args .unit), width-bounds (at .args .tenancy), width-bounds (length (at .args .copies .now)), at .pre .small, at .pre .count)
+    omega (
+      arith,
+      c .width3 .ensures,
+      c .before .width2 .ensures,
+      c .before .before .width .ensures,
+      width-bounds (at .args .unit),
+      width-bounds (at .args .tenancy),
+      width-bounds (length (at .args .copies .now)),
+      at .pre .small,
+      at .pre .count,
+    )
 
 returns : tie.Need-returns
 returns c = let at = c .before .before .before .before .before .before in
     let wide = c .before in
-    let long = request-length (at .args .unit) (at .args .tenancy) (at .args .copies .now) (wide .before .before .width .ensures) (wide .before .width2 .ensures) (wide .width3 .ensures) (at .pre) in
+    let long = request-length (at .args .unit) (at .args .tenancy) (at .args .copies .now) (wide .before .before .width .ensures)
+    (wide .before .width2 .ensures) (wide .width3 .ensures) (at .pre) in
     sent-long _ _ (omega (arith, long, c .if1 .taken))
 
 put-heading-requires : tie.Need-put-heading-requires
 put-heading-requires c κs = let at = c .before .before .before .before .before .before .before in
     let wide = c .before .before in
-    let long = request-length (at .args .unit) (at .args .tenancy) (at .args .copies .now) (wide .before .before .width .ensures) (wide .before .width2 .ensures) (wide .width3 .ensures) (at .pre) in
-    let room : length (requestBytes (at .args .unit) (at .args .tenancy) (at .args .copies .now)) ≤ length (at .args .out .now) = omega (arith, long, c .before .if1 .left) in
+    let long = request-length (at .args .unit) (at .args .tenancy) (at .args .copies .now) (wide .before .before .width .ensures)
+    (wide .before .width2 .ensures) (wide .width3 .ensures) (at .pre) in
+    let room : length (requestBytes (at .args .unit) (at .args .tenancy) (at .args .copies .now)) ≤ length (at .args .out .now) =
+    omega (arith, long, c .before .if1 .left) in
     heading-room (at .args .unit) (at .args .tenancy) (at .args .copies .now) (at .args .out .now) room
 
 put-blocks-requires : tie.Need-put-blocks-requires
 put-blocks-requires c κs = let at = c .before .before .before .before .before .before .before .before .before .before .before in
     let wide = c .before .before .before .before .before .before in
-    let long = request-length (at .args .unit) (at .args .tenancy) (at .args .copies .now) (wide .before .before .width .ensures) (wide .before .width2 .ensures) (wide .width3 .ensures) (at .pre) in
-    let room : length (requestBytes (at .args .unit) (at .args .tenancy) (at .args .copies .now)) ≤ length (at .args .out .now) = omega (arith, long, c .before .before .before .before .before .if1 .left) in
+    let long = request-length (at .args .unit) (at .args .tenancy) (at .args .copies .now) (wide .before .before .width .ensures)
+    (wide .before .width2 .ensures) (wide .width3 .ensures) (at .pre) in
+    let room : length (requestBytes (at .args .unit) (at .args .tenancy) (at .args .copies .now)) ≤ length (at .args .out .now) =
+    omega (arith, long, c .before .before .before .before .before .if1 .left) in
     blocks-room _ _ _ _ room (c .before .before .before .put-heading .ensures)
 
 returns-2 : tie.Need-returns-2
 returns-2 c = let at = c .before .before .before .before .before .before .before .before .before .before .before .before .before .before in
     let wide = c .before .before .before .before .before .before .before .before .before in
-    let long = request-length (at .args .unit) (at .args .tenancy) (at .args .copies .now) (wide .before .before .width .ensures) (wide .before .width2 .ensures) (wide .width3 .ensures) (at .pre) in
-    let room : length (requestBytes (at .args .unit) (at .args .tenancy) (at .args .copies .now)) ≤ length (at .args .out .now) = omega (arith, long, c .before .before .before .before .before .before .before .before .if1 .left) in
-    request-sent _ _ _ _ room (c .before .before .before .before .before .before .put-heading .ensures) (c .before .before .put-blocks .ensures)
+    let long = request-length (at .args .unit) (at .args .tenancy) (at .args .copies .now) (wide .before .before .width .ensures)
+    (wide .before .width2 .ensures) (wide .width3 .ensures) (at .pre) in
+    let room : length (requestBytes (at .args .unit) (at .args .tenancy) (at .args .copies .now)) ≤ length (at .args .out .now) =
+    omega (arith, long, c .before .before .before .before .before .before .before .before .if1 .left) in
+    request-sent _ _ _ _ room (c .before .before .before .before .before .before .put-heading .ensures)
+    (c .before .before .put-blocks .ensures)
 
 pub send-spec : {M : Type 1} → statement M
 send-spec =

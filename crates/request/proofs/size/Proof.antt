@@ -2,7 +2,8 @@
 use borrow.Author.Needs.{needs}
 use native.Mathlib.Omega.{arith}
 use Rattle.mask.specs.Count.{members}
-use Rattle.request.proofs.Sizing.{known-in, known-out, Counting, counting-start, counting-step, counting-done, counting-none, counting-many, counting-high}
+use Rattle.request.proofs.Sizing.{known-in, known-out, Counting, counting-start, counting-step, counting-done, counting-none}
+use Rattle.request.proofs.Sizing.{counting-many, counting-high}
 use Rattle.request.specs.Draft.{Sized}
 use Rattle.field.specs.Refusal.{numberOf}
 use lib.ListN.{length, getD}
@@ -17,31 +18,18 @@ Inv-loop copies disks known total₀ i₀ total i = Counting disks copies total 
 abbrev μ-loop : tie.MeasureT-loop
 μ-loop copies disks known total₀ i₀ total i = length copies - i
 
-below-requires : tie.Need-below-requires Inv-loop μ-loop
-below-requires c κs = search needs
-
 loop-holds : tie.Need-loop-holds Inv-loop μ-loop
 loop-holds c = counting-start _ _
-
-mul-m : tie.Need-mul-m Inv-loop μ-loop
-mul-m c = search needs
-
-shared-slice-read-m : tie.Need-shared-slice-read-m Inv-loop μ-loop
-shared-slice-read-m c = search needs
 
 returns : tie.Need-returns Inv-loop μ-loop
 unfolding Sized numberOf
 returns c = counting-none _ _ _ _ (c .before .before .before .loop .inv) (c .before .before .loop-test .taken) _ refl (c .if1 .taken)
 
-count-requires : tie.Need-count-requires Inv-loop μ-loop
-count-requires c κs = search needs
-
 returns-2 : tie.Need-returns-2 Inv-loop μ-loop
 unfolding Sized numberOf
-returns-2 c = counting-many _ _ _ _ (c .before .before .before .before .before .loop .inv) (c .before .before .before .before .loop-test .taken) _ refl (c .before .before .if1 .left) (omega (arith, c .before .count .ensures, c .if2 .taken))
-
-without-requires : tie.Need-without-requires Inv-loop μ-loop
-without-requires c κs = search needs
+returns-2 c = counting-many _ _ _ _ (c .before .before .before .before .before .loop .inv)
+    (c .before .before .before .before .loop-test .taken) _ refl (c .before .before .if1 .left)
+    (omega (arith, c .before .count .ensures, c .if2 .taken))
 
 returns-3 : tie.Need-returns-3 Inv-loop μ-loop
 unfolding Sized numberOf
@@ -50,23 +38,21 @@ returns-3 c = let turn = c .before .before .before .before .before .before in
     let ms = turn .before .before .before .before .args .copies .now in
     let fits : getD ms i 0 < 2 ^ 64 = omega (arith, c .before .before .before .before .before .shared-slice-known2 .given i) in
     let few : members 64 (getD ms i 0) ≤ 8 = omega (arith, c .before .before .before .count .ensures, c .before .before .if2 .left) in
-    let high = known-out _ _ _ _ (turn .before .before .before .before .pre .0) (turn .before .before .below .ensures) fits (c .before .without .ensures) (c .before .without .ok) (c .if3 .taken) in
+    let high = known-out _ _ _ _ (turn .before .before .before .before .pre .0) (turn .before .before .below .ensures) fits
+    (c .before .without .ensures) (c .before .without .ok) (c .if3 .taken) in
     counting-high _ _ _ _ (turn .before .loop .inv) (turn .loop-test .taken) _ refl (c .before .before .before .before .if1 .left) few high
-
-cast-total : tie.Need-cast-total Inv-loop μ-loop
-cast-total c = search needs
 
 add-total : tie.Need-add-total Inv-loop μ-loop
 add-total c = omega (arith, c .before .before .if2 .left)
 
 add-total-2 : tie.Need-add-total-2 Inv-loop μ-loop
-add-total-2 c = omega (arith, c .before .before .if2 .left, c .before .before .before .before .before .before .before .loop .inv .small, c .before .before .before .before .before .before .before .before .before .before .pre .1)
-
-add-i : tie.Need-add-i Inv-loop μ-loop
-add-i c = search needs
-
-loop-less : tie.Need-loop-less Inv-loop μ-loop
-loop-less c = search needs
+add-total-2 c = omega (
+  arith,
+  c .before .before .if2 .left,
+  c .before .before .before .before .before .before .before .loop .inv .small,
+  c .before .before
+      .before .before .before .before .before .before .before .before .pre .1,
+)
 
 loop-again : tie.Need-loop-again Inv-loop μ-loop
 loop-again c = let turn = c .before .before .before .before .before .before in
@@ -74,8 +60,10 @@ loop-again c = let turn = c .before .before .before .before .before .before in
     let ms = turn .before .before .before .before .args .copies .now in
     let fits : getD ms i 0 < 2 ^ 64 = omega (arith, c .before .before .before .before .before .shared-slice-known2 .given i) in
     let few : members 64 (getD ms i 0) ≤ 8 = omega (arith, c .before .before .before .count .ensures, c .before .before .if2 .left) in
-    let under = known-in _ _ _ _ (turn .before .before .before .before .pre .0) (turn .before .before .below .ensures) fits (c .before .without .ensures) (c .if3 .left) in
-    counting-step _ _ _ _ (turn .before .loop .inv) (turn .loop-test .taken) _ refl (c .before .before .before .before .if1 .left) few _ (c .before .before .before .count .ensures) under
+    let under = known-in _ _ _ _ (turn .before .before .before .before .pre .0) (turn .before .before .below .ensures) fits
+    (c .before .without .ensures) (c .if3 .left) in
+    counting-step _ _ _ _ (turn .before .loop .inv) (turn .loop-test .taken) _ refl (c .before .before .before .before .if1 .left) few _
+    (c .before .before .before .count .ensures) under
 
 returns-4 : tie.Need-returns-4 Inv-loop μ-loop
 unfolding Sized
@@ -87,19 +75,19 @@ size-spec =
     (tie.spec
     Inv-loop
     μ-loop
-    below-requires
+    (λ c κs. search needs)
     loop-holds
-    mul-m
-    shared-slice-read-m
+    (λ c. search needs)
+    (λ c. search needs)
     returns
-    count-requires
+    (λ c κs. search needs)
     returns-2
-    without-requires
+    (λ c κs. search needs)
     returns-3
-    cast-total
+    (λ c. search needs)
     add-total
     add-total-2
-    add-i
-    loop-less
+    (λ c. search needs)
+    (λ c. search needs)
     loop-again
     returns-4)

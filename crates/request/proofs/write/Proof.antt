@@ -18,23 +18,29 @@ returns-2 c = sent-as (draft-unset _ _ _ _ (c .before .if1 .left) (c .if2 .taken
 
 returns-3 : tie.Need-returns-3
 unfolding numberOf
-returns-3 c = sent-as (draft-large _ _ _ _ (c .before .before .if1 .left) (c .before .if2 .left) (c .if3 .taken)) (sent-refused OutOfRange _)
+returns-3 c = sent-as (draft-large _ _ _ _ (c .before .before .if1 .left) (c .before .if2 .left) (c .if3 .taken))
+    (sent-refused OutOfRange _)
 
 returns-4 : tie.Need-returns-4
 unfolding numberOf
-returns-4 c = sent-as (draft-long _ _ _ _ (c .before .before .before .if1 .left) (c .before .before .if2 .left) (c .before .if3 .left) (c .if4 .taken)) (sent-refused OutOfRange _)
+returns-4 c = sent-as
+    (draft-long _ _ _ _ (c .before .before .before .if1 .left) (c .before .before .if2 .left) (c .before .if3 .left) (c .if4 .taken))
+    (sent-refused OutOfRange _)
 
 send-requires : tie.Need-send-requires
 send-requires c κs = sized-got _ _ (c .before .before .before .before .size .ensures) (c .before .before .n .given .1) .0
 
 returns-5 : tie.Need-returns-5
 returns-5 c = let tests = c .before .before .before .before .before .before .before .before in
-    let draft = draft-of _ _ _ _ (tests .before .before .before .if1 .left) (tests .before .before .if2 .left) (tests .before .if3 .left) (tests .if4 .left) in
-    sent-as (draft ∙ sized-got _ _ (c .before .before .before .before .before .before .before .size .ensures) (c .before .before .before .before .before .n .given .1) .1 _) (c .before .before .send .ensures)
+    let draft = draft-of _ _ _ _ (tests .before .before .before .if1 .left) (tests .before .before .if2 .left)
+    (tests .before .if3 .left) (tests .if4 .left) in
+    sent-as (draft ∙ sized-got _ _ (c .before .before .before .before .before .before .before .size .ensures)
+    (c .before .before .before .before .before .n .given .1) .1 _) (c .before .before .send .ensures)
 
 returns-6 : tie.Need-returns-6
 returns-6 c = let tests = c .before .before .before .before in
-    let draft = draft-of _ _ _ _ (tests .before .before .before .if1 .left) (tests .before .before .if2 .left) (tests .before .if3 .left) (tests .if4 .left) in
+    let draft = draft-of _ _ _ _ (tests .before .before .before .if1 .left) (tests .before .before .if2 .left)
+    (tests .before .if3 .left) (tests .if4 .left) in
     sent-as (draft ∙ sized-refused _ _ (c .before .before .before .size .ensures) (c .before .e .given .1) _) (sent-refused _ _)
 
 pub write-spec : {M : Type 1} → statement M

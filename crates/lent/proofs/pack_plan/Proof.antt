@@ -1,9 +1,9 @@
 -- `pack_plan`: Q and m of 11 bits and R of 31, each moved to its place, fit side by side.
 use borrow.Author.Needs.{needs}
 use native.Mathlib.Omega.{arith}
-use Rattle.desk.proofs.Packed.{small-head, packed-head, packed-not}
-use Rattle.desk.proofs.pack_plan.Statement.{statement}
-use Rattle.desk.proofs.pack_plan.Tie as tie
+use Rattle.lent.proofs.Packed.{small-head, packed-head, packed-not}
+use Rattle.lent.proofs.pack_plan.Statement.{statement}
+use Rattle.lent.proofs.pack_plan.Tie as tie
 
 mul-result : tie.Need-mul-result
 mul-result c = omega (arith, small-head (c .before .before .before .before .pre) (c .before .before .a .given .1))

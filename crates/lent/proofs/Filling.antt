@@ -11,8 +11,8 @@ use Rattle.field.specs.Put.{spellAll}
 use Rattle.field.proofs.Spell.{spell-more}
 use Rattle.basics.specs.Buffer.{over}
 use Rattle.basics.proofs.Buffer.{over-none, over-length, over-more}
-use Rattle.desk.specs.Numbers.{bytesOf, numberAt, firstNumbers, numbers}
-use Rattle.desk.proofs.Numbers.{first-length, first-more, spell-length}
+use Rattle.lent.specs.Numbers.{bytesOf, numberAt, firstNumbers, numbers}
+use Rattle.lent.proofs.Numbers.{first-length, first-more, spell-length}
 
 -- ---- numbers of w bytes, for any w
 
@@ -27,9 +27,11 @@ module _ {w n : ℕ} {bytes out : List ℕ} where
   gathered-start h = record { count = h; below = omega arith; held = over-none out }
 
   pub gathered-length : {after : List ℕ} {i : ℕ} → Gathered w n bytes out after i → n ≤ length out → length after ≡ length out
-  gathered-length {after} {i} g room = ap length (g .held) ∙ over-length (firstNumbers w i bytes) out (omega (arith, first-length w i bytes, g .below))
+  gathered-length {after} {i} g room = ap length (g .held)
+      ∙ over-length (firstNumbers w i bytes) out (omega (arith, first-length w i bytes, g .below))
 
-  pub gathered-step : {after : List ℕ} {i v : ℕ} → Gathered w n bytes out after i → i < n → n ≤ length out → v ≡ numberAt w bytes (w * i) → Gathered w n bytes out (set after i v) (i + 1)
+  pub gathered-step : {after : List ℕ} {i v : ℕ} → Gathered w n bytes out after i → i < n → n ≤ length out → v ≡ numberAt w bytes (w * i)
+      → Gathered w n bytes out (set after i v) (i + 1)
   gathered-step {after} {i} {v} g l room e =
       let s : suc i ≡ i + 1 = omega arith in
       record {
@@ -66,7 +68,8 @@ module _ {xs out : List ℕ} {m : ℕ} where
     pub spread-length : length after ≡ length out
     spread-length = ap length (s .held) ∙ over-length (spellAll (bytesOf 2) (take i xs)) out (omega (arith, done-length, s .below))
 
-    pub spread-step : {x lo hi : ℕ} → i < m → x ≡ getD xs i 0 → x < 2 ^ 16 → lo ≡ x % 256 → hi ≡ x / 256 → Spread xs out (set (set after (2 * i) lo) (2 * i + 1) hi) m (i + 1)
+    pub spread-step : {x lo hi : ℕ} → i < m → x ≡ getD xs i 0 → x < 2 ^ 16 → lo ≡ x % 256 → hi ≡ x / 256
+        → Spread xs out (set (set after (2 * i) lo) (2 * i + 1) hi) m (i + 1)
     unfolding bytesOf
     spread-step {x} {lo} {hi} l e small low high =
         let pair : lo ∷ hi ∷ [] ≡ bytesOf 2 (getD xs i 0) =
@@ -75,9 +78,12 @@ module _ {xs out : List ℕ} {m : ℕ} where
         record {
           below = omega arith;
           held = ap (λ (y : List ℕ). set (set y (2 * i) lo) (2 * i + 1) hi) (s .held)
-              ∙ ap (λ (y : List ℕ). set y (2 * i + 1) hi) (over-more (spellAll (bytesOf 2) (take i xs)) out (2 * i) lo done-length (omega arith))
-              ∙ over-more (spellAll (bytesOf 2) (take i xs) ++ (lo ∷ [])) out (2 * i + 1) hi (omega (arith, done-length, length-append (spellAll (bytesOf 2) (take i xs)) (lo ∷ []))) (omega arith)
-              ∙ ap (λ (y : List ℕ). over y out) (append-assoc (spellAll (bytesOf 2) (take i xs)) (lo ∷ []) (hi ∷ []) ∙ ap (λ (y : List ℕ). spellAll (bytesOf 2) (take i xs) ++ y) pair ∙ spell-more (bytesOf 2) xs i 0 (omega arith));
+              ∙ ap (λ (y : List ℕ). set y (2 * i + 1) hi)
+              (over-more (spellAll (bytesOf 2) (take i xs)) out (2 * i) lo done-length (omega arith))
+              ∙ over-more (spellAll (bytesOf 2) (take i xs) ++ (lo ∷ [])) out (2 * i + 1) hi
+              (omega (arith, done-length, length-append (spellAll (bytesOf 2) (take i xs)) (lo ∷ []))) (omega arith)
+              ∙ ap (λ (y : List ℕ). over y out) (append-assoc (spellAll (bytesOf 2) (take i xs)) (lo ∷ []) (hi ∷ [])
+              ∙ ap (λ (y : List ℕ). spellAll (bytesOf 2) (take i xs) ++ y) pair ∙ spell-more (bytesOf 2) xs i 0 (omega arith));
         }
 
     pub spread-done : m ≤ i → after ≡ over (spellAll (bytesOf 2) (take m xs)) out

@@ -1,9 +1,9 @@
 -- `pack_written`: a length of 32 bits, moved up by 32, fits.
 use borrow.Author.Needs.{needs}
 use native.Mathlib.Omega.{arith}
-use Rattle.desk.proofs.Packed.{short-length, packed-length, packed-refusal}
-use Rattle.desk.proofs.pack_written.Statement.{statement}
-use Rattle.desk.proofs.pack_written.Tie as tie
+use Rattle.lent.proofs.Packed.{short-length, packed-length, packed-refusal}
+use Rattle.lent.proofs.pack_written.Statement.{statement}
+use Rattle.lent.proofs.pack_written.Tie as tie
 
 mul-result : tie.Need-mul-result
 mul-result c = omega (arith, short-length (c .before .before .before .pre) (c .before .w .given .1))

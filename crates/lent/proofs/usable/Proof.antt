@@ -1,8 +1,8 @@
 -- `usable`: the two tests are the definition's.
 use borrow.Author.Needs.{needs}
-use Rattle.desk.proofs.Tests.{usable-broken, usable-whole}
-use Rattle.desk.proofs.usable.Statement.{statement}
-use Rattle.desk.proofs.usable.Tie as tie
+use Rattle.lent.proofs.Tests.{usable-broken, usable-whole}
+use Rattle.lent.proofs.usable.Statement.{statement}
+use Rattle.lent.proofs.usable.Tie as tie
 
 returns : tie.Need-returns
 returns c = usable-broken _ _ _ (c .if1 .taken)

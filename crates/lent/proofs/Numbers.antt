@@ -16,7 +16,7 @@ use Rattle.number.specs.Bytes.{Bytes}
 use Rattle.number.proofs.Part.{drop-bytes}
 use Rattle.field.specs.Put.{spellAll}
 use Rattle.basics.specs.Lists.{All}
-use Rattle.desk.specs.Numbers.{valueOf, bytesOf, numberAt, firstNumbers, numbers, broken}
+use Rattle.lent.specs.Numbers.{valueOf, bytesOf, numberAt, firstNumbers, numbers, broken}
 
 -- ---- one number
 
@@ -25,11 +25,13 @@ unfolding valueOf
 value-append [] ys = omega arith
 value-append (x ∷ xs) ys =
     let p : 256 ^ suc (length xs) * valueOf ys ≡ 256 * (256 ^ length xs * valueOf ys) =
-    ap (λ (k : ℕ). k * valueOf ys) (pow-suc 256 (length xs) ∙ mul-comm (256 ^ length xs) 256) ∙ mul-assoc 256 (256 ^ length xs) (valueOf ys) in
+    ap (λ (k : ℕ). k * valueOf ys) (pow-suc 256 (length xs) ∙ mul-comm (256 ^ length xs) 256)
+    ∙ mul-assoc 256 (256 ^ length xs) (valueOf ys) in
     omega (arith, p, value-append xs ys)
 
 -- the low bytes and the high ones
-pub number-split : (a b : ℕ) (s : List ℕ) (at : ℕ) → at + a ≤ length s → numberAt (a + b) s at ≡ numberAt a s at + 256 ^ a * numberAt b s (at + a)
+pub number-split : (a b : ℕ) (s : List ℕ) (at : ℕ) → at + a ≤ length s
+    → numberAt (a + b) s at ≡ numberAt a s at + 256 ^ a * numberAt b s (at + a)
 unfolding numberAt
 number-split a b s at h =
     let n : length (take a (drop at s)) ≡ a = length-take-le a (drop at s) (omega (arith, length-drop at s)) in
@@ -51,7 +53,8 @@ unfolding numberAt valueOf
 number-none s at = refl
 
 -- four bytes, one by one
-pub number-four : (s : List ℕ) (at : ℕ) {a b c d : ℕ} → at + 4 ≤ length s → a ≡ getD s at 0 → b ≡ getD s (at + 1) 0 → c ≡ getD s (at + 2) 0 → d ≡ getD s (at + 3) 0 → a + 256 * (b + 256 * (c + 256 * d)) ≡ numberAt 4 s at
+pub number-four : (s : List ℕ) (at : ℕ) {a b c d : ℕ} → at + 4 ≤ length s → a ≡ getD s at 0 → b ≡ getD s (at + 1) 0 → c ≡ getD s (at + 2) 0
+    → d ≡ getD s (at + 3) 0 → a + 256 * (b + 256 * (c + 256 * d)) ≡ numberAt 4 s at
 number-four s at {a} {b} {c} {d} h p q r t =
     let two : at + 1 + 1 ≡ at + 2 = omega arith in
     let three : at + 1 + 1 + 1 ≡ at + 3 = omega arith in
@@ -86,7 +89,8 @@ first-more w zero s = ap (λ (k : ℕ). valueOf (take w (drop k s)) ∷ []) (sym
 first-more w (suc n) s =
     let e : w + w * n ≡ w * suc n = omega (arith, mul-suc w n) in
     ap (λ (x : List ℕ). valueOf (take w s) ∷ x) (first-more w n (drop w s))
-    ∙ ap (λ (x : List ℕ). valueOf (take w s) ∷ (firstNumbers w n (drop w s) ++ (valueOf (take w x) ∷ []))) (drop-drop (w * n) w s ∙ ap (λ (k : ℕ). drop k s) e)
+    ∙ ap (λ (x : List ℕ). valueOf (take w s) ∷ (firstNumbers w n (drop w s) ++ (valueOf (take w x) ∷ []))) (drop-drop (w * n) w s
+    ∙ ap (λ (k : ℕ). drop k s) e)
 
 -- ---- a number and its bytes
 
@@ -115,14 +119,17 @@ bytes-value (b ∷ bs) h =
 pub spell-length : (w : ℕ) (xs : List ℕ) → length (spellAll (bytesOf w) xs) ≡ w * length xs
 unfolding spellAll
 spell-length w [] = sym (mul-zero w)
-spell-length w (x ∷ xs) = omega (arith, length-append (bytesOf w x) (spellAll (bytesOf w) xs), bytes-length w x, spell-length w xs, mul-suc w (length xs))
+spell-length w (x ∷ xs) =
+    omega (arith, length-append (bytesOf w x) (spellAll (bytesOf w) xs), bytes-length w x, spell-length w xs, mul-suc w (length xs))
 
 first-spell : (w : ℕ) (xs : List ℕ) → All (λ (x : ℕ). x < 256 ^ w) xs → firstNumbers w (length xs) (spellAll (bytesOf w) xs) ≡ xs
 unfolding firstNumbers spellAll All
 first-spell w [] h = refl
 first-spell w (x ∷ xs) h =
-    ap (λ (y : List ℕ). valueOf y ∷ firstNumbers w (length xs) (drop w (bytesOf w x ++ spellAll (bytesOf w) xs))) (take-at (bytesOf w x) (spellAll (bytesOf w) xs) w (bytes-length w x))
-    ∙ ap (λ (y : List ℕ). valueOf (bytesOf w x) ∷ firstNumbers w (length xs) y) (drop-at (bytesOf w x) (spellAll (bytesOf w) xs) w (bytes-length w x))
+    ap (λ (y : List ℕ). valueOf y ∷ firstNumbers w (length xs) (drop w (bytesOf w x ++ spellAll (bytesOf w) xs)))
+    (take-at (bytesOf w x) (spellAll (bytesOf w) xs) w (bytes-length w x))
+    ∙ ap (λ (y : List ℕ). valueOf (bytesOf w x) ∷ firstNumbers w (length xs) y)
+    (drop-at (bytesOf w x) (spellAll (bytesOf w) xs) w (bytes-length w x))
     ∙ ap (λ (y : ℕ). y ∷ firstNumbers w (length xs) (spellAll (bytesOf w) xs)) (value-bytes w x (h .0))
     ∙ ap (λ (y : List ℕ). x ∷ y) (first-spell w xs (h .1))
 
@@ -130,7 +137,8 @@ first-spell w (x ∷ xs) h =
 pub numbers-spell : (w : ℕ) (xs : List ℕ) → 0 < w → All (λ (x : ℕ). x < 256 ^ w) xs → numbers w (spellAll (bytesOf w) xs) ≡ xs
 unfolding numbers
 numbers-spell w xs p h =
-    ap (λ (k : ℕ). firstNumbers w k (spellAll (bytesOf w) xs)) (ap (λ (k : ℕ). k / w) (spell-length w xs) ∙ mul-div-cancel-left (length xs) p)
+    ap (λ (k : ℕ). firstNumbers w k (spellAll (bytesOf w) xs)) (ap (λ (k : ℕ). k / w) (spell-length w xs)
+    ∙ mul-div-cancel-left (length xs) p)
     ∙ first-spell w xs h
 
 bytes-take : (w : ℕ) (s : List ℕ) → Bytes s → Bytes (take w s)
@@ -146,8 +154,10 @@ spell-first w zero [] b h = refl
 spell-first w zero (x ∷ s) b h = absurd (omega (arith, mul-zero w))
 spell-first w (suc n) s b h =
     let l : length (take w s) ≡ w = length-take-le w s (omega (arith, mul-suc w n)) in
-    let front : bytesOf w (valueOf (take w s)) ≡ take w s = ap (λ (k : ℕ). bytesOf k (valueOf (take w s))) (sym l) ∙ bytes-value (take w s) (bytes-take w s b) in
-    let rest : spellAll (bytesOf w) (firstNumbers w n (drop w s)) ≡ drop w s = spell-first w n (drop w s) (drop-bytes s w b) (omega (arith, length-drop w s, mul-suc w n)) in
+    let front : bytesOf w (valueOf (take w s)) ≡ take w s = ap (λ (k : ℕ). bytesOf k (valueOf (take w s))) (sym l)
+    ∙ bytes-value (take w s) (bytes-take w s b) in
+    let rest : spellAll (bytesOf w) (firstNumbers w n (drop w s))
+    ≡ drop w s = spell-first w n (drop w s) (drop-bytes s w b) (omega (arith, length-drop w s, mul-suc w n)) in
     ap (λ (x : List ℕ). x ++ spellAll (bytesOf w) (firstNumbers w n (drop w s))) front
     ∙ ap (λ (x : List ℕ). take w s ++ x) rest
     ∙ take-append-drop w s

@@ -9,15 +9,16 @@ use borrow.Author.Tests.{leb-true, leb-false, lt-ltb, le-ltb}
 use lib.ListN.{length}
 use lib.Dec.{leb}
 use Rattle.basics.proofs.Tests.{by-cases}
-use Rattle.desk.specs.Numbers.{numbers, broken, usable}
-use Rattle.desk.proofs.Numbers.{numbers-length}
+use Rattle.lent.specs.Numbers.{numbers, broken, usable}
+use Rattle.lent.proofs.Numbers.{numbers-length}
 
 module _ (w most : ℕ) (s : List ℕ) where
   pub is-usable : usable w most s ≡ true → (broken w s ≡ false) × (length s / w ≤ most)
   unfolding usable
   is-usable h =
       by-cases (broken w s)
-      (λ t. let z : false ≡ true = ap (λ (b : Bool). not b && leb (length s / w) most) (sym t) ∙ h in absurd (let o : _≡_ {A = ℕ} 0 1 = cc in omega arith))
+      (λ t. let z : false ≡ true = ap (λ (b : Bool). not b && leb (length s / w) most) (sym t) ∙ h in
+      absurd (let o : _≡_ {A = ℕ} 0 1 = cc in omega arith))
       (λ f. (f, leb-true _ _ (ap (λ (b : Bool). not b && leb (length s / w) most) (sym f) ∙ h)))
 
   pub not-usable : usable w most s ≡ false → (broken w s ≡ true) ⊎ (most < length (numbers w s))
@@ -25,7 +26,12 @@ module _ (w most : ℕ) (s : List ℕ) where
   not-usable h =
       by-cases (broken w s)
       (λ t. inl t)
-      (λ f. inr (omega (arith, numbers-length w s, leb-false (length s / w) most (ap (λ (b : Bool). not b && leb (length s / w) most) (sym f) ∙ h))))
+      (λ f. inr (omega (
+        arith,
+        numbers-length w s,
+        leb-false (length s / w) most
+            (ap (λ (b : Bool). not b && leb (length s / w) most) (sym f) ∙ h),
+      )))
 
   -- the code's own tests
   pub usable-broken : 0 < length s % w → false ≡ usable w most s

@@ -2,7 +2,7 @@
 --     packWritten, packPlan          what is accepted
 --     writerAnswer, readerAnswer     what is answered
 --     refusalIn, lengthIn, blocksIn, timeIn, sizeIn     what a caller takes out
---     Short, Small                   values that have room in their bits
+--     Fits32, FitsBits                   values that have room in their bits
 use Prim.Native.Nat.{ℕ, _+_, _*_, _/_, _%_, _^_, _<_}
 use Rattle.field.specs.Sheet.{Out, got, refused}
 use Rattle.field.specs.declared.Written.{Written}
@@ -51,11 +51,11 @@ unfoldable pub sizeIn : ℕ → ℕ
 sizeIn a = a / 2 ^ 50 % 2 ^ 11
 
 -- a length of 32 bits
-unfoldable pub Short : Written → Type 0
-Short (Length n) = n < 2 ^ 32
-Short (Refused e) = Unit
+unfoldable pub Fits32 : Written → Type 0
+Fits32 (Length n) = n < 2 ^ 32
+Fits32 (Refused e) = Unit
 
 -- Q and m of 11 bits, R of 31
-unfoldable pub Small : Answer → Type 0
-Small (Accepted h) = (h .blocks < 2 ^ 11) × (h .time < 2 ^ 31) × (h .size < 2 ^ 11)
-Small (Not e) = Unit
+unfoldable pub FitsBits : Answer → Type 0
+FitsBits (Accepted h) = (h .blocks < 2 ^ 11) × (h .time < 2 ^ 31) × (h .size < 2 ^ 11)
+FitsBits (Not e) = Unit

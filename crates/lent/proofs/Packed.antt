@@ -12,7 +12,8 @@ use Rattle.plan.specs.declared.Answer.{Answer}
 use Rattle.plan.specs.declared.Answer.the-variants.{Accepted}
 use Rattle.plan.specs.declared.Answer.the-variants.{Refused as Not}
 use Rattle.plan.specs.Told.{toldPlan}
-use Rattle.desk.specs.Packed.{packWritten, packPlan, writerAnswer, readerAnswer, refusalIn, lengthIn, blocksIn, timeIn, sizeIn, Short, Small}
+use Rattle.lent.specs.Packed.{packWritten, packPlan, writerAnswer, readerAnswer, refusalIn, lengthIn, blocksIn, timeIn, sizeIn}
+use Rattle.lent.specs.Packed.{Fits32, FitsBits}
 
 -- a writer's acceptance: no refusal, and the length
 pub written-unpacks : (n : ℕ) → n < 2 ^ 32 → (packWritten n < 2 ^ 64) × (refusalIn (packWritten n) ≡ 0) × (lengthIn (packWritten n) ≡ n)
@@ -29,7 +30,8 @@ pub record Unpacked (q r m a : ℕ) : Type 0 where
 
 pub plan-unpacks : (q r m : ℕ) → q < 2 ^ 11 → r < 2 ^ 31 → m < 2 ^ 11 → Unpacked q r m (packPlan q r m)
 unfolding packPlan refusalIn blocksIn timeIn sizeIn
-plan-unpacks q r m a b c = record { fits = omega arith; refusal = omega arith; blocks = omega arith; time = omega arith; size = omega arith }
+plan-unpacks q r m a b c =
+    record { fits = omega arith; refusal = omega arith; blocks = omega arith; time = omega arith; size = omega arith }
 
 -- a refusal: its number alone
 pub refusal-unpacks : (e : ℕ) → e < 2 ^ 8 → (refusalIn e ≡ e) × (lengthIn e ≡ 0) × (blocksIn e ≡ 0) × (timeIn e ≡ 0) × (sizeIn e ≡ 0)
@@ -39,9 +41,9 @@ refusal-unpacks e h = (omega arith, omega arith, omega arith, omega arith, omega
 -- ---- what the code packs
 
 module _ {w : Written} where
-  pub short-length : {n : ℕ} → Short w → w ≡ Length n → n < 2 ^ 32
-  unfolding Short
-  short-length {n} h e = subst Short e h
+  pub short-length : {n : ℕ} → Fits32 w → w ≡ Length n → n < 2 ^ 32
+  unfolding Fits32
+  short-length {n} h e = subst Fits32 e h
 
   pub packed-length : {n : ℕ} → w ≡ Length n → n * 4294967296 ≡ writerAnswer (toldWritten w)
   unfolding writerAnswer toldWritten packWritten
@@ -52,11 +54,12 @@ module _ {w : Written} where
   packed-refusal {e} {r} q a = a ∙ ap (λ x. writerAnswer (toldWritten x)) (sym q)
 
 module _ {a : Answer} where
-  pub small-head : {h : Head} → Small a → a ≡ Accepted h → (h .blocks < 2 ^ 11) × (h .time < 2 ^ 31) × (h .size < 2 ^ 11)
-  unfolding Small
-  small-head {h} s e = subst Small e s
+  pub small-head : {h : Head} → FitsBits a → a ≡ Accepted h → (h .blocks < 2 ^ 11) × (h .time < 2 ^ 31) × (h .size < 2 ^ 11)
+  unfolding FitsBits
+  small-head {h} s e = subst FitsBits e s
 
-  pub packed-head : {h : Head} → a ≡ Accepted h → (n : ℕ) → h .blocks * 256 + h .time * 524288 + h .size * 1125899906842624 ≡ readerAnswer (toldPlan n a)
+  pub packed-head : {h : Head} → a ≡ Accepted h → (n : ℕ)
+      → h .blocks * 256 + h .time * 524288 + h .size * 1125899906842624 ≡ readerAnswer (toldPlan n a)
   unfolding readerAnswer toldPlan packPlan
   packed-head {h} e n = ap (λ x. readerAnswer (toldPlan n x)) (sym e)
 

@@ -6,8 +6,8 @@ use native.Mathlib.Omega.{arith}
 use lib.ListN.{length, take}
 use Rattle.basics.specs.Buffer.{over}
 use Rattle.basics.proofs.Buffer.{over-within, over-front}
-use Rattle.desk.specs.Numbers.{numbers}
-use Rattle.desk.proofs.Numbers.{numbers-length}
+use Rattle.lent.specs.Numbers.{numbers}
+use Rattle.lent.proofs.Numbers.{numbers-length}
 
 module _ (w : ℕ) (bytes out after : List ℕ) (h : after ≡ over (numbers w bytes) out) where
   pub part-numbers : take (length bytes / w) after ≡ numbers w bytes

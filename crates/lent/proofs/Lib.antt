@@ -1,0 +1,5 @@
+pub mod Numbers
+pub mod Over
+pub mod Filling
+pub mod Tests
+pub mod Packed

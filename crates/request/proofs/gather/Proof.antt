@@ -1,0 +1,66 @@
+-- `gather`: the loop over the disks of a block.
+use borrow.Author.Needs.{needs}
+use native.Mathlib.Omega.{arith}
+use mathlib.Core.Path.{_∙_}
+use Rattle.field.specs.Refusal.{numberOf}
+use Rattle.request.specs.Told.{toldCopies}
+use Rattle.request.proofs.Gathering.{Gathering, gathering-start, gathering-ends, gathering-stop, gathering-low, gathering-step}
+use Rattle.request.proofs.Gathering.{gathering-done}
+use Rattle.request.proofs.gather.Statement.{statement}
+use Rattle.request.proofs.gather.Tie as tie
+
+abbrev Inv-loop : tie.InvT-loop
+Inv-loop s at k high m₀ floor₀ p₀ left₀ m floor p left = Gathering high s at k m floor p left
+
+abbrev μ-loop : tie.MeasureT-loop
+μ-loop s at k high m₀ floor₀ p₀ left₀ m floor p left = left
+
+returns : tie.Need-returns Inv-loop μ-loop
+unfolding toldCopies numberOf
+returns c = gathering-ends (c .before .before .loop .inv) (c .before .loop-test .taken) (c .if1 .taken)
+
+returns-2 : tie.Need-returns-2 Inv-loop μ-loop
+returns-2 c =
+    let l = c .before .before .before .before .before .before in
+    c .not-disk .ensures .told
+    ∙ gathering-stop (l .loop .inv) (c .before .before .before .before .before .loop-test .taken) (c .not-disk .ensures .stops _)
+
+returns-3 : tie.Need-returns-3 Inv-loop μ-loop
+unfolding toldCopies numberOf
+returns-3 c =
+    let l = c .before .before .before .before .before .before in
+    gathering-low (l .loop .inv) (l .before .before .pre) (c .before .before .before .before .if1 .left) (c .before .before .wide .ensures)
+    (c .before .if2 .left) (c .before .before .before .before .before .loop-test .taken) (c .if3 .taken)
+
+loop-again : tie.Need-loop-again Inv-loop μ-loop
+loop-again c =
+    let l = c .before .before .before .before .before .before .before in
+    gathering-step (l .loop .inv) (l .before .before .pre) (c .before .before .before .before .before .if1 .left)
+    (c .before .before .before .wide .ensures) (c .before .before .if2 .left)
+    (c .before .before .before .before .before .before .loop-test .taken) (c .before .if3 .left) (c .set .ok) (c .set .ensures)
+
+returns-4 : tie.Need-returns-4 Inv-loop μ-loop
+unfolding toldCopies
+returns-4 c = gathering-done (c .before .loop .inv) (c .loop-test .left)
+
+pub gather-spec : {M : Type 1} → statement M
+gather-spec =
+    tie.close
+    (tie.spec
+    Inv-loop
+    μ-loop
+    (λ c. gathering-start)
+    returns
+    (λ c. search needs)
+    (λ c κs. search needs)
+    (λ c κs. search needs)
+    returns-2
+    returns-3
+    (λ c. search needs)
+    (λ c κs. search needs)
+    (λ c. search needs)
+    (λ c. search needs)
+    (λ c. search needs)
+    (λ c. search needs)
+    loop-again
+    returns-4)
