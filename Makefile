@@ -5,7 +5,8 @@
 # make compare   20,000 inputs to each program and to the second program
 # make edits     every wrong program and wrong promise on file, those that `make test` leaves out among them
 # make race      the benchmark against LEMON; `race/run docs` also puts its tables into docs/SPEED.md
-.PHONY: plan test programs library tools hire second second-tests stored-runs host-tests compare edits race
+# make landing   what the last commit moved, the check's time and the instructions before and after it; BASE=.. AFTER=.. for others
+.PHONY: plan test programs library tools hire second second-tests stored-runs host-tests compare edits race landing
 
 SECOND := $(CURDIR)/target/second/release/second
 LIBRARY := $(CURDIR)/target/staticlib/libdesk.a
@@ -59,6 +60,9 @@ edits:
 
 race: programs
 	race/run
+
+landing:
+	@tests/landing $(BASE) $(AFTER)
 
 # The proofs come last, so that the last line is theirs.
 test:
