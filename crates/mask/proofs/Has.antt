@@ -1,4 +1,5 @@
 -- Laws of `has`, for masks of any width.
+--     odd-or-even                       the two cases of the first bit
 --     has-first, has-half, has-shift    the first bit; the bits of a half; the bits from a place on
 --     has-zero, has-above, has-place    0 holds no disk; a number of n bits none at n or above; so a disk that it holds is below n
 --     has-ext                           two masks with the same disks are equal
@@ -24,6 +25,14 @@ lt-or-le zero (suc k) = inl (suc-le-suc zero-le)
 lt-or-le (suc e) (suc k) = ⊎-elim (λ l. inl (suc-le-suc l)) (λ l. inr (suc-le-suc l)) (lt-or-le e k)
 
 -- ---- bit by bit
+
+pub odd-or-even : {P : Type 0} (m : ℕ) → (m % 2 ≡ 1 → P) → (m % 2 ≡ 0 → P) → P
+odd-or-even {P} m odd even = side (m % 2) refl (mod-lt m (omega arith))
+  where
+    side : (x : ℕ) → m % 2 ≡ x → x < 2 → P
+    side zero e h = even e
+    side (suc zero) e h = odd e
+    side (suc (suc x)) e h = absurd (omega arith)
 
 pub has-first : (m : ℕ) → has m 0 ≡ eqb (m % 2) 1
 unfolding has

@@ -1,5 +1,5 @@
 pub mod Has
 pub mod Bits
-pub mod Walk
+pub mod Zeros
 pub mod Members
 pub mod Unique

@@ -1,23 +1,22 @@
 -- Laws of the number of disks in a mask.
 --     members-half, members-zero, members-le    the first disk and the rest; none in 0; at most the places
 --     members-enough                            places where no disk can be add nothing
---     members-drop                              `m & (m - 1)` has one disk less
+--     ones-members                              the ones of a number of n bits
 --     members-same, members-differ              masks with the same disks, and masks that differ at one
 --     members-added, members-cleared            one disk put in, one taken out
 use mathlib.Core.Path.{_≡_, refl, sym, ap, ap₂, _∙_}
 use mathlib.Core.Bool.{Bool, true, false, not, _&&_, _||_}
 use mathlib.Core.Logic.{_⊎_, inl, inr}
-use Prim.Native.Nat.{ℕ, zero, suc, _+_, _-_, _/_, _%_, _^_, _≤_, _<_}
+use Prim.Native.Nat.{ℕ, zero, suc, _+_, _/_, _%_, _^_, _≤_, _<_}
 use native.Mathlib.Nat.{pow-suc, eq-or-lt-of-le}
 use native.Mathlib.Omega.{arith}
 use lib.Dec.{eqb}
 use borrow.Author.Tests.{eq-eqb, ne-eqb}
 use lib.Arith.{lt-one}
-use lib.Bits.{bitAnd, and-shr, and-self}
+use lib.Count.{ones, ones-step}
 use Rattle.mask.specs.Has.{has}
 use Rattle.mask.specs.Count.{bit, members}
-use Rattle.mask.proofs.Has.{has-zero, has-above, has-half, has-first}
-use Rattle.mask.proofs.Bits.{has-and}
+use Rattle.mask.proofs.Has.{has-zero, has-above, has-half, has-first, odd-or-even}
 
 -- ---- the first disk, then the rest
 
@@ -49,54 +48,23 @@ members-enough n (suc k) m h =
     ap (λ (x : ℕ). members x m) {x = n + suc k} {y = suc (n + k)} (omega arith)
     ∙ (omega (arith, members-enough n k m h, ap bit (has-above n {d = n + k} h (omega arith))))
 
--- ---- `m & (m - 1)` has one disk less
+-- ---- the ones of a number are its disks
 
-lowest-bit : (x m : ℕ) → x ≡ m % 2 → bit (has m 0) ≡ x
+bit-first : (m : ℕ) → bit (has m 0) ≡ m % 2
 unfolding bit
-lowest-bit zero m e = ap bit (has-first m ∙ ap (λ (y : ℕ). eqb y 1) (sym e))
-lowest-bit (suc zero) m e = ap bit (has-first m ∙ ap (λ (y : ℕ). eqb y 1) (sym e))
-lowest-bit (suc (suc x)) m e = absurd (omega arith)
+bit-first m =
+    ap bit (has-first m)
+    ∙ odd-or-even m (λ o. ap (λ (x : ℕ). bit (eqb x 1)) o ∙ sym o) (λ z. ap (λ (x : ℕ). bit (eqb x 1)) z ∙ sym z)
 
-both-bit : (a b : Bool) → bit a + bit b ≤ 1 → bit (a && b) ≡ 0
-unfolding bit
-both-bit true true h = absurd (omega arith)
-both-bit true false h = refl
-both-bit false b h = refl
+zero-ones : ones 0 ≡ 0
+unfolding ones
+zero-ones = refl
 
-pub members-drop : (n m : ℕ) → 0 < m → m < 2 ^ n → members n (bitAnd m (m - 1)) + 1 ≡ members n m
-members-drop zero m p h = absurd (omega (arith, lt-one h))
-members-drop (suc n) m p h = side (λ q l. members-drop n (m / 2) q l) (m % 2) refl
-  where
-    half : bitAnd m (m - 1) / 2 ≡ bitAnd (m / 2) ((m - 1) / 2)
-    half = and-shr m (m - 1) 1
-
-    first : bit (has (bitAnd m (m - 1)) 0) ≡ 0
-    first =
-        ap bit (has-and m (m - 1) 0)
-        ∙ both-bit (has m 0) (has (m - 1) 0) (omega (arith, lowest-bit (m % 2) m refl, lowest-bit ((m - 1) % 2) (m - 1) refl))
-
-    side : (0 < m / 2 → m / 2 < 2 ^ n → members n (bitAnd (m / 2) (m / 2 - 1)) + 1 ≡ members n (m / 2)) → (x : ℕ) → x ≡ m % 2
-        → members (suc n) (bitAnd m (m - 1)) + 1 ≡ members (suc n) m
-    side rest zero e =
-        let q = pow-suc 2 n in
-        omega (
-          arith,
-          members-half n (bitAnd m (m - 1)),
-          members-half n m,
-          first,
-          lowest-bit zero m e,
-          ap (members n) (half ∙ ap (bitAnd (m / 2)) {x = (m - 1) / 2} {y = m / 2 - 1} (omega arith)),
-          rest (omega arith) (omega arith),
-        )
-    side rest (suc x) e =
-        omega (
-          arith,
-          members-half n (bitAnd m (m - 1)),
-          members-half n m,
-          first,
-          lowest-bit (suc x) m e,
-          ap (members n) (half ∙ ap (bitAnd (m / 2)) {x = (m - 1) / 2} {y = m / 2} (omega arith) ∙ and-self (m / 2)),
-        )
+pub ones-members : (n m : ℕ) → m < 2 ^ n → ones m ≡ members n m
+unfolding members
+ones-members zero m h = ap ones (lt-one h) ∙ zero-ones
+ones-members (suc n) m h =
+    ones-step m ∙ omega (arith, ones-members n (m / 2) (omega (arith, pow-suc 2 n)), bit-first m, members-half n m)
 
 -- ---- two masks that differ at one disk
 

@@ -64,35 +64,16 @@ pub fn below(n: usize) -> u64
     if n < 64 { (1 << n) - 1 } else { !0 }
 }
 
-// The lowest disk of m, or 64: a walk over the bit positions, by eights and then by ones.
+// The lowest disk of m, or 64.
 pub fn lowest(m: u64) -> usize
     ensures { λ r. ⌜ Lowest m r ⌝ }
 {
-    if m == 0 {
-        return 64;
-    }
-    let mut rest = m;
-    let mut d: usize = 0;
-    while rest & 255 == 0 {
-        rest >>= 8;
-        d += 8;
-    }
-    while rest & 1 == 0 {
-        rest >>= 1;
-        d += 1;
-    }
-    d
+    u64::trailing_zeros(m) as usize
 }
 
-// How many disks are in m: each turn takes the lowest of the rest out.
+// How many disks are in m.
 pub fn count(m: u64) -> u32
     ensures { λ r. ⌜ r ≡ members 64 m ⌝ }
 {
-    let mut rest = m;
-    let mut n: u32 = 0;
-    while rest != 0 {
-        rest &= rest - 1;
-        n += 1;
-    }
-    n
+    u64::count_ones(m)
 }

@@ -17,7 +17,7 @@ use Rattle.mask.specs.Has.{has}
 use Rattle.mask.specs.Count.{members}
 use Rattle.mask.specs.Lowest.{Lowest}
 use Rattle.mask.proofs.Has.{has-zero, has-lt}
-use Rattle.mask.proofs.Walk.{lowest-zero}
+use Rattle.mask.proofs.Zeros.{lowest-zero}
 use Rattle.basics.specs.Count.{bit}
 use Rattle.model.specs.Shortfall.{touches}
 use Rattle.model.specs.Closed.{Closed}

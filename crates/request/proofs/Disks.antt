@@ -4,11 +4,13 @@
 --     disks-plus, disks-mask                 the disks of the number of a rising list are that list
 --     mask-under                             the number of a rising list has no bit above its last
 --     disks-rise                             the disks of a number rise
+--     disks-zero, disks-lowest               0 has no disk; the lowest disk of a number, then those of the number without it
 use mathlib.Core.Path.{_≡_, refl, sym, ap, ap₂, _∙_, subst}
-use mathlib.Core.Bool.{Bool, true, _||_}
+use mathlib.Core.Bool.{Bool, true, false, not, _&&_, _||_}
+use mathlib.Core.Logic.{_⊎_, inl, inr}
 use mathlib.Core.List.{List, [], _∷_, _++_, append-assoc, append-nil}
 use Prim.Native.Nat.{ℕ, zero, suc, _+_, _-_, _*_, _/_, _%_, _^_, _≤_, _<_}
-use native.Mathlib.Nat.{mod-lt, mod-one, mod-eq-of-lt, zero-add}
+use native.Mathlib.Nat.{mod-lt, mod-one, mod-eq-of-lt, zero-add, eq-or-lt-of-le}
 use native.Mathlib.Omega.{arith}
 use borrow.Author.Tests.{eq-eqb, ne-eqb, eqb-true, eqb-false}
 use lib.Dec.{eqb}
@@ -17,7 +19,9 @@ use Rattle.basics.specs.Choice.{pick}
 use Rattle.basics.proofs.Choice.{pick-true, pick-false}
 use Rattle.basics.proofs.Tests.{by-cases}
 use Rattle.mask.specs.Has.{has}
-use Rattle.mask.proofs.Has.{has-above}
+use Rattle.mask.specs.Lowest.{Lowest}
+use Rattle.mask.proofs.Has.{has-zero, has-above}
+use Rattle.mask.proofs.Zeros.{lowest-some, lowest-has}
 use Rattle.basics.specs.Lists.{All, Rises}
 use Rattle.request.specs.Disks.{maskOf, disksBelow, disksOf}
 use Rattle.request.proofs.Masks.{has-plus, plus-lt}
@@ -153,3 +157,45 @@ pub disks-rise : (high m : ℕ) → high ≤ 63 → m < 2 ^ (high + 1) → Rises
 unfolding disksOf
 disks-rise high m l h =
     subst (Rises 0 high) (sym (disks-up (high + 1) 64 m h (omega arith))) (disks-rising (high + 1) high m (omega arith) .0)
+
+-- ---- the lowest disk, then the rest
+
+disks-none : (n m : ℕ) → ((e : ℕ) → e < n → has m e ≡ false) → disksBelow n m ≡ []
+unfolding disksBelow
+disks-none zero m h = refl
+disks-none (suc n) m h =
+    ap₂ (λ (x y : List ℕ). x ++ y) (disks-none n m (λ e l. h e (omega arith))) (pick-false (n ∷ []) [] (h n (omega arith)))
+
+pub disks-zero : disksOf 0 ≡ []
+unfolding disksOf
+disks-zero = disks-none 64 0 (λ e l. has-zero e)
+
+-- d is the lowest disk of m, and r is m with d taken out
+module _ (m d r : ℕ) (found : has m d ≡ true) (under : (e : ℕ) → e < d → has m e ≡ false)
+    (taken : (e : ℕ) → has r e ≡ (not (eqb e d) && has m e)) where
+  kept : (e : ℕ) → (e ≡ d → ⊥) → has m e ≡ has r e
+  kept e n = sym (taken e ∙ ap (λ (b : Bool). not b && has m e) (ne-eqb e d n))
+
+  first-at : disksBelow (suc d) m ≡ d ∷ disksBelow (suc d) r
+  unfolding disksBelow
+  first-at =
+      let gone : has r d ≡ false = taken d ∙ ap (λ (b : Bool). not b && has m d) (eq-eqb d d refl) in
+      ap₂ (λ (x y : List ℕ). x ++ y) (disks-none d m under) (pick-true (d ∷ []) [] found)
+      ∙ sym
+      (ap₂ (λ (x y : List ℕ). d ∷ (x ++ y)) (disks-none d r (λ e l. sym (kept e (λ q. omega arith)) ∙ under e l))
+      (pick-false (d ∷ []) [] gone))
+
+  disks-first : (n : ℕ) → d < n → disksBelow n m ≡ d ∷ disksBelow n r
+  unfolding disksBelow
+  disks-first zero l = absurd (omega arith)
+  disks-first (suc n) l = side (disks-first n) (eq-or-lt-of-le l)
+    where
+      side : (d < n → disksBelow n m ≡ d ∷ disksBelow n r) → (suc d ≡ suc n) ⊎ (suc d < suc n)
+          → disksBelow (suc n) m ≡ d ∷ disksBelow (suc n) r
+      side rest (inl e) = subst (λ (k : ℕ). disksBelow (suc k) m ≡ d ∷ disksBelow (suc k) r) {x = d} {y = n} (omega arith) first-at
+      side rest (inr k) = ap₂ (λ (x : List ℕ) (b : Bool). x ++ pick b (n ∷ []) []) (rest (omega arith)) (kept n (λ q. omega arith))
+
+pub disks-lowest : (m d r : ℕ) → m < 2 ^ 64 → 0 < m → Lowest m d → ((e : ℕ) → has r e ≡ (not (eqb e d) && has m e))
+    → disksOf m ≡ d ∷ disksOf r
+unfolding disksOf
+disks-lowest m d r h p low taken = disks-first m d r (lowest-has m d h p low) (low .under) taken 64 (lowest-some m d h p low)

@@ -1,13 +1,14 @@
 -- Laws of writing a request.
---     disks-in, disks-out                                 one place more of a number of copies
---     disk-in, disk-out                                   the loop over the disks of a block
---     block-length, block-put                             the bytes of a block
---     blocks-more, blocks-all                             the loop over the blocks
+--     disks-in, disks-out                   one place more of a number of copies
+--     block-length, block-put               the bytes of a block
+--     Left, left-all, left-next, left-none  the loop over the disks of a block
+--     blocks-more, blocks-all               the loop over the blocks
 use mathlib.Core.Path.{_≡_, refl, sym, ap, _∙_, subst}
-use mathlib.Core.Bool.{Bool, true, false}
+use mathlib.Core.Bool.{true, false, not, _&&_}
 use mathlib.Core.List.{List, [], _∷_, _++_, append-nil}
-use Prim.Native.Nat.{ℕ, zero, suc, _+_, _-_, _≤_, _<_}
+use Prim.Native.Nat.{ℕ, zero, suc, _+_, _^_, _≤_, _<_}
 use native.Mathlib.Omega.{arith}
+use lib.Dec.{eqb}
 use lib.ListN.{length, take, getD, length-append}
 use lib.Seq.{take-length}
 use Rattle.number.specs.Encode.{encode, widthOf}
@@ -15,13 +16,15 @@ use Rattle.basics.proofs.Choice.{pick-true, pick-false}
 use Rattle.basics.proofs.Tests.{by-cases}
 use Rattle.number.proofs.Encode.{width-one}
 use Rattle.mask.specs.Has.{has}
+use Rattle.mask.specs.Lowest.{Lowest}
 use Rattle.mask.specs.Count.{bit, members}
 use Rattle.mask.proofs.Members.{members-le}
 use Rattle.field.specs.Put.{spellAll, PutOne, Laid}
-use Rattle.field.proofs.Puts.{laid-more, laid-length, laid-join, put-one}
+use Rattle.field.proofs.Puts.{laid-none, laid-length, laid-join, put-one}
 use Rattle.field.proofs.Spell.{spell-append, spell-more}
 use Rattle.request.specs.Disks.{disksBelow, disksOf}
 use Rattle.request.specs.Draft.{blockBytes}
+use Rattle.request.proofs.Disks.{disks-zero, disks-lowest}
 
 -- ---- the disks of a block
 
@@ -56,43 +59,6 @@ module _ (m : ℕ) where
       (λ t. omega (arith, ap (λ (x : List ℕ). length (disksBelow d m ++ x)) (pick-true (d ∷ []) [] t), length-append (disksBelow d m) (d ∷ []), disks-count d, ap bit t))
       (λ f. omega (arith, ap (λ (x : List ℕ). length (disksBelow d m ++ x)) (pick-false (d ∷ []) [] f), length-append (disksBelow d m) [], disks-count d, ap bit f))
 
-  members-in : (d : ℕ) → has m d ≡ true → members (suc d) m ≡ members d m + 1
-  unfolding members bit
-  members-in d t = ap (λ (b : Bool). members d m + bit b) t
-
-  -- fewer places hold no more disks
-  members-mono : (d k : ℕ) → members d m ≤ members (d + k) m
-  unfolding members
-  members-mono d zero = let e : members (d + 0) m ≡ members d m = ap (λ (k : ℕ). members k m) {x = d + 0} {y = d} (omega arith) in
-      omega arith
-  members-mono d (suc k) =
-      let e : members (d + suc k) m ≡ members (d + k) m + bit (has m (d + k)) =
-      ap (λ (k : ℕ). members k m) {x = d + suc k} {y = suc (d + k)} (omega arith) in
-      omega (arith, members-mono d k)
-
-  module _ {out : List ℕ} {at : ℕ} (d : ℕ) {mid : List ℕ} {p : ℕ} (w : Laid out at (spellAll encode (disksBelow d m)) mid p) where
-    pub disk-in : {next : ℕ} {after : List ℕ} → has m d ≡ true → d < 64 → at + length (spellAll encode (disksOf m)) ≤ length out → PutOne d mid p next after → Laid out at (spellAll encode (disksBelow (d + 1) m)) after next
-    unfolding disksOf
-    disk-in {next} {after} t l room f =
-        let one : widthOf d ≡ 1 = width-one d (omega arith) in
-        let more : members (suc d) m ≤ members (suc d + (64 - suc d)) m = members-mono (suc d) (64 - suc d) in
-        let all : members (suc d + (64 - suc d)) m
-        ≡ members 64 m = ap (λ (k : ℕ). members k m) {x = suc d + (64 - suc d)} {y = 64} (omega arith) in
-        let e : spellAll encode (disksBelow d m) ++ encode d ≡ spellAll encode (disksBelow (d + 1) m) =
-        sym (disks-in d t) ∙ ap (λ (k : ℕ). spellAll encode (disksBelow k m)) {x = suc d} {y = d + 1} (omega arith) in
-        subst (λ (x : List ℕ). Laid out at x after next) e
-        (laid-more w f (omega (arith, w .place, disks-length d (omega arith), disks-length 64 (omega arith), members-in d t)))
-
-    pub disk-out : has m d ≡ false → Laid out at (spellAll encode (disksBelow (d + 1) m)) mid p
-    disk-out f =
-        let e : spellAll encode (disksBelow d m) ≡ spellAll encode (disksBelow (d + 1) m) =
-        sym (disks-out d f) ∙ ap (λ (k : ℕ). spellAll encode (disksBelow k m)) {x = suc d} {y = d + 1} (omega arith) in
-        subst (λ (x : List ℕ). Laid out at x mid p) e w
-
-    pub disks-all : d ≡ 64 → Laid out at (spellAll encode (disksOf m)) mid p
-    unfolding disksOf
-    disks-all e = subst (λ (k : ℕ). Laid out at (spellAll encode (disksBelow k m)) mid p) e w
-
   -- ---- a block
 
   pub block-length : length (blockBytes m) ≡ 1 + members 64 m
@@ -119,6 +85,44 @@ module _ (m : ℕ) where
     block-put {next} {after} w =
         let q : encode k ≡ encode (length (disksBelow 64 m)) = ap encode (e ∙ sym (disks-count 64)) in
         subst (λ (x : List ℕ). Laid out at (x ++ spellAll encode (disksBelow 64 m)) after next) q (laid-join count-put w)
+
+-- ---- disk after disk
+
+-- the disks of rest are left to be put at p: once they are, those of m stand in out from a place on
+pub record Left (m : ℕ) (out : List ℕ) (at rest : ℕ) (mid : List ℕ) (p : ℕ) : Type 0 where
+  pub fits : rest < 2 ^ 64
+  pub room : p + length (spellAll encode (disksOf rest)) ≤ length mid
+  pub same : length mid ≡ length out
+  pub whole : {after : List ℕ} {next : ℕ} → Laid mid p (spellAll encode (disksOf rest)) after next
+      → Laid out at (spellAll encode (disksOf m)) after next
+
+pub left-all : (m : ℕ) (out : List ℕ) (at : ℕ) → m < 2 ^ 64 → at + length (spellAll encode (disksOf m)) ≤ length out
+    → Left m out at m out at
+left-all m out at f h = record { fits = f; room = h; same = refl; whole = λ w. w }
+
+module _ {m : ℕ} {out : List ℕ} {at rest : ℕ} {mid : List ℕ} {p : ℕ} (left : Left m out at rest mid p) where
+  -- the lowest disk is put and taken out
+  pub left-next : {d r next : ℕ} {after : List ℕ} → r < 2 ^ 64 → 0 < rest → Lowest rest d
+      → ((e : ℕ) → has r e ≡ (not (eqb e d) && has rest e)) → PutOne d mid p next after → Left m out at r after next
+  unfolding spellAll widthOf
+  left-next {d} {r} {next} {after} fits some low taken put =
+      let spelled : spellAll encode (disksOf rest) ≡ encode d ++ spellAll encode (disksOf r) =
+      ap (spellAll encode) (disks-lowest rest d r (left .fits) some low taken) in
+      let both = ap length spelled ∙ length-append (encode d) (spellAll encode (disksOf r)) in
+      let one : Laid mid p (encode d) after next = put-one put (omega (arith, left .room, both)) in
+      record {
+        fits = fits;
+        room = omega (arith, left .room, both, one .place, laid-length one);
+        same = laid-length one ∙ left .same;
+        whole = λ {after = last} {next = end} w.
+            left .whole (subst (λ (x : List ℕ). Laid mid p x last end) (sym spelled) (laid-join one w));
+      }
+
+  pub left-none : rest ≡ 0 → Laid out at (spellAll encode (disksOf m)) mid p
+  unfolding spellAll
+  left-none z =
+      let none : spellAll encode (disksOf rest) ≡ [] = ap (spellAll encode) (ap disksOf z ∙ disks-zero) in
+      left .whole (subst (λ (x : List ℕ). Laid mid p x mid p) (sym none) (laid-none mid p (omega (arith, left .room))))
 
 -- ---- block after block
 

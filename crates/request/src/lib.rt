@@ -205,18 +205,17 @@ fn size(copies: &[u64], disks: usize) -> Written
     Written::Length(total)
 }
 
-// Puts the disks of a block, rising.
+// Puts the disks of a block, rising: each turn the lowest of the rest.
 fn put_disks(m: u64, out: &mut [u8], at: usize) -> usize
     requires { ⌜ at + length (spellAll encode (disksOf m)) ≤ length (now out) ⌝ }
     ensures { λ r. ⌜ Laid (now (out .entry)) at (spellAll encode (disksOf m)) (now (out .exit)) r ⌝ }
 {
     let mut p = at;
-    let mut d: u32 = 0;
-    while d < 64 {
-        if mask::test(m, d as usize) {
-            p = field::put(d, out, p);
-        }
-        d += 1;
+    let mut rest = m;
+    while rest != 0 {
+        let d = mask::lowest(rest);
+        p = field::put(d as u32, out, p);
+        rest = mask::clear(rest, d);
     }
     p
 }
