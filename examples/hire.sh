@@ -1,6 +1,7 @@
 #!/bin/sh
 # An example hire from end to end: desk -> shelf -> tenant, with the real programs.
-#   DESK, TENANT, STREAM  the host programs; SHELF the shelf program, with its arguments if it takes any
+#   DESK, TENANT, STREAM  the host programs (target/hosts)
+#   SHELF                 the shelf program (target/bin/shelf), with its arguments if it takes any
 #   OUT                   the folder for what is made: the sheets, the shelf's lines, the plan, the picture
 set -eu
 here=$(cd "$(dirname "$0")" && pwd)
@@ -8,9 +9,10 @@ top=$(dirname "$here")
 DESK=${DESK:-$top/target/hosts/desk}
 TENANT=${TENANT:-$top/target/hosts/tenant}
 STREAM=${STREAM:-$top/target/hosts/stream}
-SHELF=${SHELF:-$top/target/bin/shelf}
 OUT=${OUT:-$top/target/hire}
 unit=7 tenancy=300 disks=6
+# SHELF may hold arguments, so it is not quoted
+shelf() { if [ -n "${SHELF:-}" ]; then $SHELF; else "$top/target/bin/shelf"; fi; }
 mkdir -p "$OUT"
 
 echo "The desk writes the settings sheet of unit $unit for tenancy $tenancy."
@@ -22,10 +24,9 @@ echo "The tenant writes the read request."
 echo "The shelf is rented, set, asked and returned. It answers:"
 "$STREAM" $unit rent $tenancy settings "$OUT/settings.sheet" request 2964 "$OUT/request.sheet" \
     return $tenancy >"$OUT/calls"
-# SHELF may hold arguments, so it is not quoted
-$SHELF <"$OUT/calls" >"$OUT/answers"
+shelf <"$OUT/calls" >"$OUT/answers"
 sed 's/^/    /' "$OUT/answers"
 
 echo "The tenant reads the plan:"
 echo
-"$TENANT" plan $unit $tenancy "$OUT/answers" --disks "$here/disks.csv" --svg "$OUT/hire.svg"
+"$TENANT" plan $unit $tenancy "$OUT/answers" --disks "$here/disks.csv" --request "$here/blocks.txt" --svg "$OUT/hire.svg"

@@ -2,74 +2,165 @@
 
 #include <stdio.h>
 #include <stdlib.h>
+#include <string.h>
 
-#include "bytes.h"
+#include "contents.h"
+#include "faults.h"
 #include "input.h"
+#include "remedy.h"
 #include "say.h"
 
 static const char SEPARATORS[] = " \t,;|/";
 
-/* Adds one disk to a block's copies, or says what is wrong with it. */
-static bool add_disk(const char *name, unsigned number, struct span word, uint64_t *copies)
+/* A list as it is read. */
+struct reading {
+    const char *name;
+    struct bytes list;      /* struct block */
+    struct faults faults;
+    struct gaps gaps;
+    bool numbered;          /* whether every block so far has its number before it */
+    unsigned taken_out;     /* the line of the first block in a comment, 0 for none */
+    unsigned commented;     /* the same, where a block follows */
+};
+
+/* Adds one disk to a block's copies. */
+static void add_disk(struct reading *r, unsigned line, struct span word, uint64_t *copies)
 {
     uint32_t disk;
-    if (!number_of(word.at, word.len, &disk)) {
-        say("%s:%u: \"%s\" is not a disk number", name, number, shown(word).text);
-        return false;
-    }
-    if (disk >= RP_MOST_DISKS) {
-        say("%s:%u: disk %u, and no unit has a disk above %d", name, number, (unsigned)disk,
+    if (!number_of(word, &disk))
+        faults_add(&r->faults, "%s:%u: \"%s\" is not a disk number", r->name, line, shown(word).text);
+    else if (disk >= RP_MOST_DISKS)
+        faults_add(&r->faults, "%s:%u: disk %u, and no unit has a disk above %d", r->name, line, (unsigned)disk,
             RP_MOST_DISKS - 1);
-        return false;
-    }
-    if (*copies >> disk & 1) {
-        say("%s:%u: disk %u is named twice", name, number, (unsigned)disk);
-        return false;
-    }
-    *copies |= (uint64_t)1 << disk;
-    return true;
+    else if (*copies >> disk & 1)
+        faults_add(&r->faults, "%s:%u: disk %u is named twice", r->name, line, (unsigned)disk);
+    else
+        *copies |= (uint64_t)1 << disk;
 }
 
-static bool read_block(const char *name, unsigned number, struct span line, struct block *block)
+/* Takes a block's number and colon off a line, where they are there, and checks them. */
+static void take_number(struct reading *r, unsigned line, struct span *code)
 {
-    struct span word;
-    *block = (struct block){ 0, number };
-    if (line.len == 1 && line.at[0] == '-')
-        return true;
-    while (span_next(&line, SEPARATORS, &word))
-        if (word.len > 0 && !add_disk(name, number, word, &block->copies))
-            return false;
-    if (block->copies == 0)
-        say("%s:%u: no disk is named; write - for a block that no disk holds", name, number);
-    return block->copies != 0;
+    size_t due = r->list.len / sizeof(struct block);
+    struct span rest = *code, name;
+    uint32_t number;
+    span_next(&rest, ":", &name);
+    if (rest.at == NULL) {
+        r->numbered = false;
+        return;
+    }
+    *code = trimmed(rest);
+    name = trimmed(name);
+    if (name.len > 5 && span_is_any_case((struct span){ name.at, 5 }, "block"))
+        name = trimmed((struct span){ name.at + 5, name.len - 5 });
+    if (!number_of(name, &number))
+        faults_add(&r->faults, "%s:%u: \"%s\" before the colon is not a block number", r->name, line,
+            shown(name).text);
+    else if (number != due)
+        faults_add(&r->faults, "%s:%u: block %u stands where block %zu is due; give every block a line, in order",
+            r->name, line, (unsigned)number, due);
 }
 
-static bool read_list(const struct bytes *text, struct bytes *list, const char *name)
+static void read_block(struct reading *r, unsigned line, struct span code)
+{
+    struct block block = { 0, line };
+    struct span word;
+    unsigned words = 0;
+    take_number(r, line, &code);
+    if (!span_is(code, "-")) {
+        while (span_next(&code, SEPARATORS, &word)) {
+            if (word.len > 0)
+                add_disk(r, line, word, &block.copies);
+            words += word.len > 0;
+        }
+        if (words == 0)
+            faults_add(&r->faults, "%s:%u: no disk is named; write - for a block that no disk holds", r->name, line);
+    }
+    bytes_add(&r->list, &block, sizeof block);
+}
+
+/* Whether a comment is a block that was taken out: disk numbers and nothing else. */
+static bool is_block_in_comment(struct span line)
+{
+    struct span rest, word;
+    uint32_t disk;
+    unsigned words = 0;
+    line = trimmed(line);
+    if (line.len == 0 || line.at[0] != '#')
+        return false;
+    while (line.len > 0 && line.at[0] == '#')
+        line = trimmed((struct span){ line.at + 1, line.len - 1 });
+    line = rest = code_of(line);
+    if (span_next(&rest, ":", &word) && rest.at != NULL && number_of(trimmed(word), &disk))
+        line = rest;
+    while (span_next(&line, SEPARATORS, &word)) {
+        if (word.len > 0 && (!number_of(word, &disk) || disk >= RP_MOST_DISKS))
+            return false;
+        words += word.len > 0;
+    }
+    return words > 0;
+}
+
+static void read_all(struct reading *r, const struct bytes *text)
 {
     struct lines lines = lines_of(text);
     struct span line;
-    struct block block;
     while (lines_next(&lines, &line)) {
-        if (!read_block(name, lines.number, line, &block))
-            return false;
-        bytes_add(list, &block, sizeof block);
+        struct span code = code_of(line);
+        gaps_take(&r->gaps, lines.number, line, code);
+        if (r->taken_out == 0 && is_block_in_comment(line))
+            r->taken_out = lines.number;
+        if (code.len > 0) {
+            read_block(r, lines.number, code);
+            r->commented = r->taken_out;
+        }
     }
-    return true;
+    gaps_end(&r->gaps, lines.number + 1);
 }
 
-bool blocks_read(const char *path, struct blocks *blocks)
+/* What was passed over in silence, where the numbers of the blocks rest on it. */
+static void tell_passed_over(const struct reading *r)
+{
+    if (r->numbered)
+        return;
+    if (r->commented > 0)
+        say("%s:%u: a block in a comment is no block: the blocks below it have moved up; a number and a colon before each "
+            "line's disks would keep the numbers", r->name, r->commented);
+    if (r->gaps.count > 0 && r->list.len > 0)
+        say("%s:%u: an empty line is no block (%u such); write - for a block that no disk holds", r->name,
+            r->gaps.first, r->gaps.count);
+}
+
+static bool read_text(const struct bytes *text, const char *name, struct blocks *blocks)
+{
+    struct reading r = { .name = name, .list = bytes_new(), .faults = faults_new(), .numbered = true };
+    bool good;
+    read_all(&r, text);
+    good = r.faults.count == 0;
+    if (good) {
+        tell_passed_over(&r);
+        *blocks = (struct blocks){ name, (struct block *)(void *)r.list.at, r.list.len / sizeof(struct block) };
+    } else {
+        faults_say(&r.faults);
+        bytes_free(&r.list);
+    }
+    faults_free(&r.faults);
+    return good;
+}
+
+bool blocks_read(const char *path, const struct expected *expected, struct blocks *blocks)
 {
     struct bytes text = bytes_new();
-    struct bytes list = bytes_new();
     const char *name = input_name(path);
-    bool good = input_read(path, &text) && read_list(&text, &list, name);
-    bytes_free(&text);
-    if (!good) {
-        bytes_free(&list);
-        return false;
+    bool good = input_read(path, &text);
+    if (good && contents_begin(&text)) {
+        good = contents_blocks(&text, name, *expected, blocks);
+    } else if (good) {
+        text_plain(&text);
+        good = read_text(&text, name, blocks);
     }
-    *blocks = (struct blocks){ name, (struct block *)(void *)list.at, list.len / sizeof(struct block) };
-    return true;
+    bytes_free(&text);
+    return good;
 }
 
 void blocks_free(struct blocks *blocks)
@@ -77,6 +168,13 @@ void blocks_free(struct blocks *blocks)
     free(blocks->list);
     blocks->list = NULL;
     blocks->count = 0;
+}
+
+void add_disks(struct bytes *text, uint64_t copies)
+{
+    for (unsigned disk = 0; disk < RP_MOST_DISKS; disk++)
+        if (copies >> disk & 1)
+            bytes_addf(text, " %u", disk);
 }
 
 static unsigned ones(uint64_t copies)
@@ -95,60 +193,52 @@ static unsigned highest(uint64_t copies)
     return disk;
 }
 
-/* What is wrong with one block, in words; false where nothing is. */
-static bool block_fault(const struct block *block, uint32_t disks, struct bytes *why)
+/* The line of a block behind the name of its file; nothing where it comes from a sheet. */
+static struct digits line_of(const struct block *block)
 {
+    struct digits line = { "" };
+    if (block->line > 0)
+        snprintf(line.text, sizeof line.text, ":%u", block->line);
+    return line;
+}
+
+/* What is wrong with one block, if anything is. */
+static void add_block_fault(struct faults *faults, const struct blocks *blocks, size_t i, uint32_t disks)
+{
+    const struct block *block = &blocks->list[i];
     if (block->copies == 0)
-        bytes_addf(why, "no disk holds it");
+        faults_add(faults, "%s%s: block %zu: no disk holds it", blocks->name, line_of(block).text, i);
     else if (ones(block->copies) > RP_MOST_COPIES)
-        bytes_addf(why, "%u copies, and a block has at most %d", ones(block->copies), RP_MOST_COPIES);
+        faults_add(faults, "%s%s: block %zu: %u copies, and a block has at most %d", blocks->name,
+            line_of(block).text, i, ones(block->copies), RP_MOST_COPIES);
     else if (highest(block->copies) >= disks)
-        bytes_addf(why, "disk %u, and with DISKS %u the last is %u", highest(block->copies),
-            (unsigned)disks, (unsigned)disks - 1);
-    else
-        return false;
-    return true;
+        faults_add(faults, "%s%s: block %zu: disk %u, and of %u disk%s the last is %u", blocks->name,
+            line_of(block).text, i, highest(block->copies), (unsigned)disks, disks == 1 ? "" : "s",
+            (unsigned)disks - 1);
 }
 
-/* Where a list that was refused with 6 or 7 is wrong. */
-static void find_fault(const struct blocks *blocks, uint32_t tenancy, uint32_t disks, struct bytes *why)
-{
-    if (tenancy == 0) {
-        bytes_addf(why, "TENANCY is 0, and no tenancy is");
-        return;
-    }
-    if (disks < 1 || disks > RP_MOST_DISKS) {
-        bytes_addf(why, "DISKS is %u, and a unit has 1 to %d", (unsigned)disks, RP_MOST_DISKS);
-        return;
-    }
-    if (blocks->count > RP_MOST_BLOCKS) {
-        bytes_addf(why, "%s: %zu blocks, and a request has at most %s", blocks->name, blocks->count,
-            grouped(RP_MOST_BLOCKS).text);
-        return;
-    }
-    for (size_t i = 0; i < blocks->count; i++) {
-        size_t before = why->len;
-        bytes_addf(why, "%s:%u: block %zu: ", blocks->name, blocks->list[i].line, i);
-        if (block_fault(&blocks->list[i], disks, why))
-            return;
-        why->len = before;
-    }
-}
-
+/* Says why a list was refused, with everything that is wrong. */
 static void say_fault(const struct blocks *blocks, uint32_t tenancy, uint32_t disks, unsigned refusal)
 {
-    struct bytes why = bytes_new();
+    struct faults faults = faults_new();
     const char *cure = "correct the list and run this again";
-    if (tenancy == 0)
+    if (tenancy == 0) {
+        faults_add(&faults, "TENANCY is 0, and no tenancy is");
         cure = "give the number of the hire";
-    else if (disks < 1 || disks > RP_MOST_DISKS)
+    } else if (disks < 1 || disks > RP_MOST_DISKS) {
+        faults_add(&faults, "DISKS is %u, and a unit has 1 to %d", (unsigned)disks, RP_MOST_DISKS);
         cure = "give the number of disks in the unit's table";
-    else if (refusal == RP_NO_COPY)
-        cure = remedy(refusal);
-    find_fault(blocks, tenancy, disks, &why);
-    bytes_add(&why, "", 1);
-    say_refused(refusal, why.len > 1 ? (char *)why.at : NULL, cure);
-    bytes_free(&why);
+    } else if (blocks->count > RP_MOST_BLOCKS) {
+        faults_add(&faults, "%s: %s blocks, and a request has at most %s", blocks->name,
+            grouped(blocks->count).text, grouped(RP_MOST_BLOCKS).text);
+    } else {
+        if (refusal == RP_NO_COPY)
+            cure = remedy_here(refusal);
+        for (size_t i = 0; i < blocks->count; i++)
+            add_block_fault(&faults, blocks, i, disks);
+    }
+    say_refused(refusal, faults_text(&faults), cure);
+    faults_free(&faults);
 }
 
 uint32_t blocks_sheet(const struct blocks *blocks, uint32_t unit, uint32_t tenancy, uint32_t disks,

@@ -50,20 +50,31 @@ void bytes_add(struct bytes *b, const void *data, size_t len)
     b->len += len;
 }
 
+void bytes_addv(struct bytes *b, const char *form, va_list values)
+{
+    va_list again;
+    int len;
+    va_copy(again, values);
+    len = vsnprintf(NULL, 0, form, values);
+    if (len >= 0) {
+        vsnprintf((char *)bytes_more(b, (size_t)len + 1), (size_t)len + 1, form, again);
+        b->len += (size_t)len;
+    }
+    va_end(again);
+}
+
 void bytes_addf(struct bytes *b, const char *form, ...)
 {
     va_list values;
-    int len;
     va_start(values, form);
-    len = vsnprintf(NULL, 0, form, values);
+    bytes_addv(b, form, values);
     va_end(values);
-    if (len < 0)
-        return;
-    bytes_more(b, (size_t)len + 1);
-    va_start(values, form);
-    vsnprintf((char *)b->at + b->len, (size_t)len + 1, form, values);
-    va_end(values);
-    b->len += (size_t)len;
+}
+
+char *bytes_text(struct bytes *b)
+{
+    *bytes_more(b, 1) = '\0';
+    return (char *)b->at;
 }
 
 struct digits plain(uint64_t value)

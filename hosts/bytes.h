@@ -2,6 +2,7 @@
 #ifndef BYTES_H
 #define BYTES_H
 
+#include <stdarg.h>
 #include <stddef.h>
 #include <stdint.h>
 
@@ -23,6 +24,10 @@ void bytes_add(struct bytes *b, const void *data, size_t len);
 __attribute__((format(printf, 2, 3)))
 #endif
 void bytes_addf(struct bytes *b, const char *form, ...);
+void bytes_addv(struct bytes *b, const char *form, va_list values);
+
+/* Ends a text with a null byte that is not counted, and gives it. */
+char *bytes_text(struct bytes *b);
 
 /* A number as text: an amount has its thousands parted by commas, a name such as a block's has not. */
 struct digits {

@@ -2,66 +2,64 @@
 #include <stdio.h>
 #include <string.h>
 
+#include "contents.h"
 #include "options.h"
 #include "output.h"
+#include "program.h"
 #include "rippleplank.h"
 #include "say.h"
+#include "show.h"
 #include "table.h"
 
 static const char USAGE[] =
     "usage: desk settings UNIT TENANCY [TABLE] [-o FILE]\n"
-    "       desk --help\n";
+    "       desk show [SHEET] [--unit UNIT] [--tenancy TENANCY] [--disks N]\n"
+    "       desk --help | --version\n";
 
 static const char HELP[] =
     "\n"
-    "Writes the settings sheet of UNIT for TENANCY to FILE, or to standard output.\n"
+    "settings writes the settings sheet of UNIT for TENANCY to FILE, or to standard output.\n"
     "\n"
-    "TABLE is a file of CSV, by default standard input. Its first line is cost,load,delay; then\n"
-    "a line for each disk, 1 to 64 of them, in whole microseconds: cost of a block 1 to\n"
-    "1,000,000, load 0 to 100,000,000, delay 0 to 1,000,000. What follows a # is a comment;\n"
-    "comments and blank lines are passed over.\n"
+    "TABLE is a file of CSV, by default standard input, parted by commas, semicolons or tabs. Its\n"
+    "first line names the columns cost, load and delay, in any order; then a line for each disk, 1\n"
+    "to 64 of them, in whole microseconds: cost of a block 1 to 1,000,000, load 0 to 100,000,000,\n"
+    "delay 0 to 1,000,000. A column disk may say each disk's number, and is then checked. What\n"
+    "follows a # is a comment; comments and empty lines are passed over. A settings sheet will do\n"
+    "too, and is written for UNIT and TENANCY.\n"
     "\n"
-    "    cost,load,delay\n"
-    "    4,0,1        # disk 0\n"
-    "    3,2,0        # disk 1\n"
+    "    disk,cost,load,delay\n"
+    "    0,4,0,1\n"
+    "    1,3,2,0      # a comment\n"
     "\n"
-    "FILE is written whole or not at all, and not at all where the sheet is refused.\n"
-    "Exit status: 0 written; 1 refused, or a file can not be used; 2 called wrongly.\n";
-
-static int usage(void)
-{
-    fputs(USAGE, stderr);
-    return STATUS_USAGE;
-}
+    "show shows any sheet field by field with the places of its bytes, and where it is refused.\n"
+    "SHEET is a file, by default standard input: the sheet itself, or its bytes in hex or as xxd\n"
+    "or hexdump show them, or what the shelf printed. The options say what is expected of it.\n"
+    "\n"
+    "FILE is written whole or not at all, not at all where the sheet is refused, and never over an\n"
+    "input or a read-only file.\n"
+    "Exit status: 0 done; 1 refused, or a file can not be used; 2 called wrongly; 3 sheets are\n"
+    "shown, and the shelf refused another call or stopped.\n";
 
 static int settings(char **words)
 {
     const char *places[3] = { NULL, NULL, NULL }, *out = NULL;
-    const struct option_value options[] = { { "-o", &out } };
+    const struct option options[] = { { "-o", &out, NULL }, { NULL, NULL, NULL } };
     uint8_t sheet[RP_LONGEST_SETTINGS];
     uint32_t unit, tenancy, len;
     struct table table;
-    if (!options_read(words, places, 2, 3, options, 1) || !place_number("UNIT", places[0], &unit)
-        || !place_number("TENANCY", places[1], &tenancy))
-        return usage();
-    if (!table_read(places[2], &table))
+    if (!options_read(words, places, 2, 3, options) || !word_number("UNIT", places[0], &unit)
+        || !word_number("TENANCY", places[1], &tenancy))
+        return program_usage();
+    if (!table_read(places[2], &ANYTHING, &table))
         return STATUS_BAD;
     len = table_sheet(&table, unit, tenancy, sheet);
     table_free(&table);
-    return len > 0 && output_write(out, sheet, len) ? STATUS_DONE : STATUS_BAD;
+    return len > 0 && output_bytes(out, sheet, len) ? STATUS_DONE : STATUS_BAD;
 }
 
 int main(int count, char **words)
 {
-    say_as("desk");
-    if (asks_help(count, words)) {
-        printf("%s%s", USAGE, HELP);
-        return fflush(stdout) == 0 ? STATUS_DONE : STATUS_BAD;
-    }
-    if (count < 2)
-        return usage();
-    if (strcmp(words[1], "settings") == 0)
-        return settings(words + 2);
-    say("there is no command \"%s\"", words[1]);
-    return usage();
+    static const struct command COMMANDS[] = { { "settings", settings }, { "show", show_sheets }, { NULL, NULL } };
+    static const struct program DESK = { "desk", USAGE, HELP, COMMANDS, NULL };
+    return program_main(&DESK, count, words);
 }

@@ -5,45 +5,63 @@
 #include "input.h"
 #include "say.h"
 
-bool asks_help(int count, char **words)
+bool word_number(const char *what, const char *word, uint32_t *value)
 {
-    for (int i = 1; i < count && strcmp(words[i], "--") != 0; i++)
-        if (strcmp(words[i], "--help") == 0 || strcmp(words[i], "-h") == 0)
-            return true;
+    if (number_of(span_of(word), value))
+        return true;
+    say("%s has to be a whole number of 0 to 4,294,967,295, not \"%s\"", what, shown(span_of(word)).text);
     return false;
 }
 
-bool place_number(const char *what, const char *word, uint32_t *value)
+/* The option of a word: its name or, where it has a value, its name and = and the value. */
+static const struct option *find(const char *word, const struct option *options, const char **joined)
 {
-    if (number_of(word, strlen(word), value))
-        return true;
-    say("%s has to be a whole number of 0 to 4,294,967,295, not \"%s\"", what, word);
-    return false;
-}
-
-/* Takes the option at words[0] with its value at words[1]. */
-static bool take(char **words, const struct option_value *options, size_t count)
-{
-    for (size_t i = 0; i < count; i++) {
-        if (strcmp(words[0], options[i].name) != 0)
-            continue;
-        if (words[1] == NULL) {
-            say("%s needs a value", words[0]);
-            return false;
+    for (; options->name != NULL; options++) {
+        size_t len = strlen(options->name);
+        *joined = NULL;
+        if (strcmp(word, options->name) == 0)
+            return options;
+        if (len > 2 && options->value != NULL && strncmp(word, options->name, len) == 0 && word[len] == '=') {
+            *joined = word + len + 1;
+            return options;
         }
-        if (*options[i].value != NULL) {
-            say("%s is given twice", words[0]);
-            return false;
-        }
-        *options[i].value = words[1];
-        return true;
     }
-    say("there is no option %s here", words[0]);
+    return NULL;
+}
+
+static bool says_twice(const char *name)
+{
+    say("%s is given twice", name);
     return false;
 }
 
-bool options_read(char **words, const char **places, size_t least, size_t most,
-    const struct option_value *options, size_t option_count)
+/* Takes the option at (*words)[0], and its value if it has one; words then stands at its last word. */
+static bool take(char ***words, const struct option *options)
+{
+    const char *value, *word = (*words)[0];
+    const struct option *option = find(word, options, &value);
+    if (option == NULL) {
+        say("there is no option %s here", shown(span_of(word)).text);
+        return false;
+    }
+    if (option->flag != NULL) {
+        if (*option->flag)
+            return says_twice(option->name);
+        return *option->flag = true;
+    }
+    if (value == NULL && (*words)[1] != NULL)
+        value = *++*words;
+    if (value == NULL) {
+        say("%s needs a value", option->name);
+        return false;
+    }
+    if (*option->value != NULL)
+        return says_twice(option->name);
+    *option->value = value;
+    return true;
+}
+
+bool options_read(char **words, const char **places, size_t least, size_t most, const struct option *options)
 {
     size_t count = 0;
     bool plain = false;
@@ -51,11 +69,10 @@ bool options_read(char **words, const char **places, size_t least, size_t most,
         if (!plain && strcmp(*words, "--") == 0) {
             plain = true;
         } else if (!plain && (*words)[0] == '-' && (*words)[1] != '\0') {
-            if (!take(words, options, option_count))
+            if (!take(&words, options))
                 return false;
-            words++;
         } else if (count == most) {
-            say("\"%s\" is one word too many", *words);
+            say("\"%s\" is one word too many", shown(span_of(*words)).text);
             return false;
         } else {
             places[count++] = *words;

@@ -1,4 +1,4 @@
-/* A command's words: places in order, and options with a value. */
+/* A command's words: places in order, and options. */
 #ifndef OPTIONS_H
 #define OPTIONS_H
 
@@ -6,19 +6,17 @@
 #include <stddef.h>
 #include <stdint.h>
 
-struct option_value {
-    const char *name;       /* as "-o" */
-    const char **value;     /* null until it is given */
+/* An option with a value, as "-o FILE", or without one, as "--json". */
+struct option {
+    const char *name;
+    const char **value;     /* where it goes; it has to be null before */
+    bool *flag;             /* for an option without a value, in its place; it has to be false before */
 };
 
-/* Sorts words into places and options; says what is wrong with them, if anything is. */
-bool options_read(char **words, const char **places, size_t least, size_t most,
-    const struct option_value *options, size_t option_count);
+/* Sorts words into places and options; says what is wrong with them, if anything is. The list ends with a null name. */
+bool options_read(char **words, const char **places, size_t least, size_t most, const struct option *options);
 
-/* Whether a word asks for help. */
-bool asks_help(int count, char **words);
-
-/* A place that has to be a 32-bit number. */
-bool place_number(const char *what, const char *word, uint32_t *value);
+/* A word that has to be a 32-bit number. */
+bool word_number(const char *what, const char *word, uint32_t *value);
 
 #endif

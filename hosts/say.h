@@ -5,7 +5,8 @@
 enum {
     STATUS_DONE = 0,
     STATUS_BAD = 1,     /* refused, or an input or output that can not be used */
-    STATUS_USAGE = 2    /* called wrongly */
+    STATUS_USAGE = 2,   /* called wrongly */
+    STATUS_TOLD = 3     /* the plan is shown, and the shelf refused another call or stopped */
 };
 
 /* The program's name, to stand before its messages. */
@@ -17,10 +18,7 @@ __attribute__((format(printf, 1, 2)))
 #endif
 void say(const char *form, ...);
 
-/* A refusal in words with its number, what it was met at (or null), and what to do. */
+/* A refusal in words with its number, what it was met at (lines, or null), and what to do. */
 void say_refused(unsigned refusal, const char *where, const char *what_to_do);
-
-/* What the reader of a refused sheet can do. */
-const char *remedy(unsigned refusal);
 
 #endif

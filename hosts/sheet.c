@@ -1,22 +1,45 @@
 #include "sheet.h"
 
 #include <stdio.h>
+#include <stdlib.h>
 #include <string.h>
 
+#include "contents.h"
 #include "hex.h"
 #include "input.h"
+#include "remedy.h"
 #include "say.h"
 
-/* Text has no control bytes; a plan sheet begins with one, its kind 3. */
+/* Text has no control bytes but those of lines; every sheet begins with one, its kind. */
 static bool is_text(const struct bytes *b)
 {
     for (size_t i = 0; i < b->len; i++) {
         uint8_t c = b->at[i];
-        if (c != '\n' && c != '\r' && c != '\t' && (c < ' ' || c > '~'))
+        if ((c < ' ' && c != '\n' && c != '\r' && c != '\t') || c == 0x7F)
             return false;
     }
     return b->len > 0;
 }
+
+/* Whether bytes begin as a text in UTF-16 does, which has control bytes. */
+static bool is_wide_text(const struct bytes *b)
+{
+    return b->len >= 2 && (memcmp(b->at, "\xFF\xFE", 2) == 0 || memcmp(b->at, "\xFE\xFF", 2) == 0);
+}
+
+/* ---- the shelf's lines ---- */
+
+enum { MOST_TOLD = 50 };
+
+/* A text as it is read. */
+struct reading {
+    struct sheets *sheets;
+    struct bytes found;     /* struct found */
+    struct bytes hex;       /* of lines that are hex digits alone: one sheet in all */
+    unsigned hex_line;      /* the first of them */
+    unsigned calls;         /* the shelf's lines so far, one for each call */
+    bool rented;            /* by those lines */
+};
 
 /* Whether a line is a word and, after a blank, the rest. */
 static bool begins(struct span line, const char *word, struct span *rest)
@@ -28,82 +51,224 @@ static bool begins(struct span line, const char *word, struct span *rest)
     return true;
 }
 
-static bool is_word(struct span line, const char *word)
+/* The numbers of a line, at most three; how many there are, 0 where it has anything else. */
+static unsigned numbers_in(struct span rest, uint32_t numbers[3])
 {
-    return line.len == strlen(word) && memcmp(line.at, word, line.len) == 0;
+    struct span word;
+    unsigned count = 0;
+    while (span_next(&rest, " ", &word))
+        if (count == 3 || !number_of(word, &numbers[count++]))
+            return 0;
+    return count;
 }
 
-/* What the lines of a text hold. */
-struct found {
-    unsigned plans;
-    unsigned hex_lines;
-    uint32_t refused;       /* by the shelf, the first time; 0 not at all */
-    uint32_t stopped;
-};
-
-/* Takes one line; false where it is none that can stand in a text with a plan. */
-static bool take_line(struct span line, struct found *found, struct bytes *into)
+/* Adds what has to be told of a call that was refused: its number and, if they are there, its place and which sheet. */
+static void add_refusal(struct reading *r, unsigned line, const uint32_t *numbers, unsigned count)
 {
+    struct bytes *told = &r->sheets->told;
+    if (r->sheets->refusals++ >= MOST_TOLD)
+        return;
+    bytes_addf(told, "refused %u: %s\n  %s:%u: the shelf refused call %u", (unsigned)numbers[0],
+        rp_refusal_words(numbers[0]), r->sheets->name, line, r->calls);
+    if (count > 1)
+        bytes_addf(told, numbers[0] == RP_NO_ROOM ? ", which needs room for %s" : ", at byte %s",
+            grouped(numbers[1]).text);
+    if (count > 2)
+        bytes_addf(told, " of sheet %u", (unsigned)numbers[2]);
+    bytes_addf(told, "\n  what to do: %s\n", remedy_at_shelf(numbers[0], r->rented));
+}
+
+/* Adds that the shelf stopped. */
+static void add_stop(struct reading *r, unsigned line, uint32_t number)
+{
+    bytes_addf(&r->sheets->told, "stopped %u: %s\n  %s:%u: the shelf stopped at call %u\n"
+        "  what to do: write the stream of calls again, whole\n", (unsigned)number, why_stopped(number),
+        r->sheets->name, line, r->calls);
+    r->sheets->refusals++;
+}
+
+static void add_sheet(struct reading *r, struct bytes *sheet, unsigned line)
+{
+    bytes_add(&r->found, &(struct found){ *sheet, line }, sizeof(struct found));
+}
+
+/* A line of the shelf that is no plan; false where it is none. */
+static bool take_word(struct reading *r, unsigned line, struct span code)
+{
+    uint32_t numbers[3];
     struct span rest;
-    uint32_t number;
-    if (is_word(line, "rented") || is_word(line, "set") || is_word(line, "returned"))
-        return true;
-    if (begins(line, "refused", &rest) && number_of(rest.at, rest.len, &number)) {
-        found->refused = found->refused == 0 ? number : found->refused;
-        return true;
-    }
-    if (begins(line, "stopped", &rest) && number_of(rest.at, rest.len, &number)) {
-        found->stopped = number;
-        return true;
-    }
-    if (begins(line, "plan", &rest)) {
-        found->plans++;
-        return hex_read(rest, into);
-    }
-    found->hex_lines++;
-    return hex_read(line, into);
-}
-
-/* Says why a text has not exactly one sheet; false where it has. */
-static bool says_none(const struct found *found, const char *name)
-{
-    if (found->plans + (found->hex_lines > 0) == 1)
-        return false;
-    if (found->plans > 0)
-        say("%s: more than one plan; give one at a time", name);
-    else if (found->refused > 0)
-        say_refused(found->refused, "the shelf refused a call", remedy(found->refused));
-    else if (found->stopped > 0)
-        say("%s: the shelf stopped (%u): the stream of calls that it was given is damaged", name,
-            (unsigned)found->stopped);
+    unsigned count;
+    if (span_is(code, "rented") || span_is(code, "returned"))
+        r->rented = span_is(code, "rented");
+    else if (begins(code, "refused", &rest) && (count = numbers_in(rest, numbers)) > 0)
+        add_refusal(r, line, numbers, count);
+    else if (begins(code, "stopped", &rest) && numbers_in(rest, numbers) == 1)
+        add_stop(r, line, numbers[0]);
     else
-        say("%s: there is no plan in it", name);
+        return span_is(code, "set");
     return true;
 }
 
-static bool read_text(const struct bytes *text, struct bytes *into, const char *name)
+/* A plan of the shelf; false where it is none. */
+static bool take_plan(struct reading *r, unsigned line, struct span code)
 {
-    struct lines lines = lines_of(text);
-    struct found found = { 0, 0, 0, 0 };
-    struct span line;
-    while (lines_next(&lines, &line)) {
-        if (!take_line(line, &found, into)) {
-            say("%s:%u: \"%s\" is neither hex digits, two a byte, nor a line of the shelf", name,
-                lines.number, shown(line).text);
-            return false;
-        }
-    }
-    return !says_none(&found, name);
+    struct bytes sheet = bytes_new();
+    struct span rest;
+    bool good = begins(code, "plan", &rest) && hex_read(rest, &sheet);
+    if (good)
+        add_sheet(r, &sheet, line);
+    else
+        bytes_free(&sheet);
+    return good;
 }
 
-bool sheet_read(const char *path, struct bytes *into)
+/* Any line of the shelf; false where it is none. */
+static bool take_answer(struct reading *r, unsigned line, struct span code)
+{
+    r->calls++;
+    if (take_word(r, line, code) || take_plan(r, line, code))
+        return true;
+    r->calls--;
+    return false;
+}
+
+static bool take_line(struct reading *r, unsigned line, struct span code)
+{
+    size_t before = r->hex.len;
+    if (code.len == 0 || take_answer(r, line, code))
+        return true;
+    if (hex_read(code, &r->hex)) {
+        if (r->hex_line == 0)
+            r->hex_line = line;
+        return true;
+    }
+    r->hex.len = before;
+    say("%s:%u: \"%s\" is neither hex digits, two a byte, nor a line of the shelf", r->sheets->name, line,
+        shown(code).text);
+    return false;
+}
+
+static bool read_lines(struct reading *r, const struct bytes *text)
+{
+    struct lines lines = lines_of(text);
+    struct span line;
+    while (lines_next(&lines, &line))
+        if (!take_line(r, lines.number, code_of(line)))
+            return false;
+    if (r->hex_line > 0) {
+        add_sheet(r, &r->hex, r->hex_line);
+        r->hex = bytes_new();
+    }
+    return true;
+}
+
+static bool read_dump(struct reading *r, const struct bytes *text)
+{
+    unsigned wrong = dump_read(text, &r->hex);
+    if (wrong > 0) {
+        say("%s:%u: this line does not go on with the dump that begins above it", r->sheets->name, wrong);
+        return false;
+    }
+    add_sheet(r, &r->hex, 0);
+    r->hex = bytes_new();
+    return true;
+}
+
+/* The file's bytes are the sheet. */
+static bool read_bytes(struct reading *r, struct bytes *all)
+{
+    add_sheet(r, all, 0);
+    *all = bytes_new();
+    return true;
+}
+
+bool sheets_read(const char *path, struct sheets *sheets)
 {
     struct bytes all = bytes_new();
-    bool good = input_read(path, &all);
-    if (good && is_text(&all))
-        good = read_text(&all, into, input_name(path));
-    else if (good)
-        bytes_add(into, all.at, all.len);
+    struct reading r = { sheets, bytes_new(), bytes_new(), 0, 0, false };
+    bool good;
+    *sheets = (struct sheets){ input_name(path), NULL, 0, bytes_new(), 0 };
+    good = input_read(path, &all);
+    if (good && (is_text(&all) || is_wide_text(&all))) {
+        text_plain(&all);
+        good = dump_is(&all) ? read_dump(&r, &all) : read_lines(&r, &all);
+    } else if (good) {
+        good = read_bytes(&r, &all);
+    }
     bytes_free(&all);
+    bytes_free(&r.hex);
+    sheets->list = (struct found *)(void *)r.found.at;
+    sheets->count = r.found.len / sizeof(struct found);
+    if (!good)
+        sheets_free(sheets);
     return good;
+}
+
+void sheets_free(struct sheets *sheets)
+{
+    for (size_t i = 0; i < sheets->count; i++)
+        bytes_free(&sheets->list[i].sheet);
+    free(sheets->list);
+    bytes_free(&sheets->told);
+    sheets->list = NULL;
+    sheets->count = 0;
+}
+
+void sheets_tell(const struct sheets *sheets)
+{
+    fwrite(sheets->told.at, 1, sheets->told.len, stderr);
+    if (sheets->refusals > MOST_TOLD)
+        say("%s: %u refusals in all, of which the first %d are told", sheets->name, sheets->refusals, MOST_TOLD);
+}
+
+/* ---- one plan of several ---- */
+
+/* Says whose the plans are, where none is the one asked for. */
+static void say_whose(const struct sheets *sheets, uint32_t unit, uint32_t tenancy)
+{
+    enum { MOST_NAMED = 8 };
+    static struct contents contents;
+    struct bytes whose = bytes_new();
+    for (size_t i = 0; i < sheets->count && i < MOST_NAMED; i++) {
+        contents_read(&sheets->list[i].sheet, &ANYTHING, &contents, NULL);
+        if (contents.refusal != RP_ACCEPTED)
+            bytes_addf(&whose, "%sline %u refused %u", i > 0 ? ", " : "", sheets->list[i].line, contents.refusal);
+        else
+            bytes_addf(&whose, "%sline %u unit %u tenancy %u", i > 0 ? ", " : "", sheets->list[i].line,
+                (unsigned)contents.unit, (unsigned)contents.tenancy);
+    }
+    say("%s: none of its %zu plans is of unit %u and tenancy %u: %s%s", sheets->name, sheets->count, (unsigned)unit,
+        (unsigned)tenancy, bytes_text(&whose), sheets->count > MOST_NAMED ? ", .." : "");
+    bytes_free(&whose);
+}
+
+/* The nth plan of a unit and tenancy, from 1; how many there are. */
+static size_t find_plan(const struct sheets *sheets, uint32_t unit, uint32_t tenancy, uint32_t nth,
+    const struct found **plan)
+{
+    size_t count = 0;
+    for (size_t i = 0; i < sheets->count; i++)
+        if (contents_is_plan_of(&sheets->list[i].sheet, unit, tenancy) && ++count == nth)
+            *plan = &sheets->list[i];
+    return count;
+}
+
+const struct found *sheets_plan(const struct sheets *sheets, uint32_t unit, uint32_t tenancy, uint32_t nth)
+{
+    const struct found *plan = NULL;
+    size_t count = find_plan(sheets, unit, tenancy, nth == 0 ? 1 : nth, &plan);
+    if (sheets->count == 0)
+        say("%s: there is no plan in it", sheets->name);
+    else if (count == 0 && sheets->count == 1)
+        return &sheets->list[0];    /* the library says what is wrong with it */
+    else if (count == 0)
+        say_whose(sheets, unit, tenancy);
+    else if (nth == 0 && count > 1) {
+        say("%s: %zu plans of unit %u and tenancy %u; choose one with --nth 1 to --nth %zu", sheets->name, count,
+            (unsigned)unit, (unsigned)tenancy, count);
+        return NULL;
+    } else if (nth > count)
+        say("%s: there is no plan %u: it has %zu of unit %u and tenancy %u", sheets->name, (unsigned)nth, count,
+            (unsigned)unit, (unsigned)tenancy);
+    return plan;
 }

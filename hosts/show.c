@@ -1,138 +1,57 @@
-/* A plan as text. */
-#include <string.h>
+#include "show.h"
 
-#include "plan.h"
+#include <stdio.h>
 
-enum { BAR = 24, LINE = 60, EDGE = 96 };
+#include "contents.h"
+#include "options.h"
+#include "program.h"
+#include "say.h"
+#include "sheet.h"
 
-/* Adds a word to a list that goes on below its first line at column `indent`. */
-static void add_word(struct bytes *text, size_t *line_start, size_t indent, const char *word)
+/* Shows every sheet of a file. */
+static int show_all(const struct sheets *sheets, const struct expected *expected)
 {
-    if (text->len - *line_start + 1 + strlen(word) > EDGE) {
-        bytes_addf(text, "\n");
-        *line_start = text->len;
-        bytes_addf(text, "%*s", (int)indent, "");
+    int status = STATUS_DONE;
+    char title[64];
+    for (size_t i = 0; i < sheets->count; i++) {
+        int one;
+        snprintf(title, sizeof title, "%ssheet %zu of %zu, line %u", i > 0 ? "\n" : "", i + 1, sheets->count,
+            sheets->list[i].line);
+        one = contents_show(&sheets->list[i].sheet, expected, sheets->count > 1 ? title : NULL);
+        status = one != STATUS_DONE ? one : status;
     }
-    bytes_addf(text, " %s", word);
+    return status;
 }
 
-/* A block's number, marked if it is of the short set. */
-static struct digits block_word(const struct plan *plan, uint32_t block)
+int show_sheets(char **words)
 {
-    struct digits word = plain(block);
-    if (plan->is_short[block])
-        strcat(word.text, "*");
-    return word;
-}
-
-static uint32_t most_on_a_disk(const struct plan *plan)
-{
-    uint32_t most = 0;
-    for (uint32_t d = 0; d < RP_MOST_DISKS; d++)
-        most = plan->load[d] > most ? plan->load[d] : most;
-    return most;
-}
-
-/* How long a disk's bar is: a mark a block where that fits, else in proportion, and never none. */
-static uint32_t bar_of(uint32_t load, uint32_t most)
-{
-    if (most <= BAR)
-        return load;
-    return (load * BAR + most - 1) / most;
-}
-
-/* One disk: how many blocks, a bar, and which. */
-static void show_disk(const struct plan *plan, uint32_t disk, uint32_t most, struct bytes *text)
-{
-    size_t start = text->len, indent;
-    uint32_t bar = bar_of(plan->load[disk], most);
-    uint32_t width = most < BAR ? most : BAR;
-    bytes_addf(text, "%4u  %6u  ", (unsigned)disk, (unsigned)plan->load[disk]);
-    for (uint32_t i = 0; i < width; i++)
-        bytes_addf(text, "%s", i < bar ? "#" : " ");
-    bytes_addf(text, " ");
-    indent = text->len - start;
-    for (uint32_t b = next_on(plan, disk, 0); b < plan->blocks; b = next_on(plan, disk, b + 1))
-        add_word(text, &start, indent, block_word(plan, b).text);
-    bytes_addf(text, "\n");
-}
-
-/* Draws one block of the timeline between two columns: its number in brackets where there is room. */
-static void draw_block(const struct plan *plan, uint32_t block, char *line, size_t from, size_t to)
-{
-    struct digits word = plain(block);
-    size_t len = strlen(word.text);
-    if (to <= from)
-        return;
-    memset(line + from, plan->is_short[block] ? '#' : '=', to - from);
-    if (to - from >= 2) {
-        line[from] = '[';
-        line[to - 1] = ']';
+    const char *places[1] = { NULL }, *unit_word = NULL, *tenancy_word = NULL, *disks_word = NULL;
+    const struct option options[] = {
+        { "--unit", &unit_word, NULL }, { "--tenancy", &tenancy_word, NULL }, { "--disks", &disks_word, NULL },
+        { NULL, NULL, NULL }
+    };
+    struct expected expected = ANYTHING;
+    struct sheets sheets;
+    uint32_t unit, tenancy;
+    int status;
+    if (!options_read(words, places, 0, 1, options) || (unit_word != NULL && !word_number("--unit", unit_word, &unit))
+        || (tenancy_word != NULL && !word_number("--tenancy", tenancy_word, &tenancy))
+        || (disks_word != NULL && !word_number("--disks", disks_word, &expected.disks)))
+        return program_usage();
+    if (expected.disks < 1 || expected.disks > RP_MOST_DISKS) {
+        say("--disks has to be 1 to %d", RP_MOST_DISKS);
+        return program_usage();
     }
-    if (to - from >= len + 2)
-        memcpy(line + from + 1, word.text, len);
-}
-
-/* One disk from 0 to R. */
-static void draw_line(const struct plan *plan, const struct row *row, uint32_t disk, char line[LINE + 1])
-{
-    uint64_t at = start_of(row);
-    memset(line, ' ', LINE);
-    line[LINE] = '\0';
-    if (plan->load[disk] == 0)
-        return;
-    memset(line, '.', at * LINE / plan->time);
-    for (uint32_t b = next_on(plan, disk, 0); b < plan->blocks; b = next_on(plan, disk, b + 1)) {
-        draw_block(plan, b, line, at * LINE / plan->time, (at + row->cost) * LINE / plan->time);
-        at += row->cost;
-    }
-}
-
-static void show_timeline(const struct plan *plan, const struct table *table, struct bytes *text)
-{
-    char line[LINE + 1];
-    bytes_addf(text, "\ndisk        start          end  0%*s\n", LINE, "R");
-    for (uint32_t d = 0; d < table->count; d++) {
-        const struct row *row = &table->rows[d];
-        draw_line(plan, row, d, line);
-        bytes_addf(text, "%4u  %11s  %11s  |%s|\n", (unsigned)d,
-            plan->load[d] == 0 ? "idle" : grouped(start_of(row)).text,
-            grouped(end_of(row, plan->load[d])).text, line);
-    }
-    bytes_addf(text, "times in microseconds; . delay and load, = a block, # a block of the short set\n");
-}
-
-static void show_short_set(const struct plan *plan, struct bytes *text)
-{
-    size_t start;
-    if (plan->blocks == 0) {
-        bytes_addf(text, "\nshort set: none\n");
-        return;
-    }
-    bytes_addf(text, "\nshort set: %u of %u blocks (marked * above), which no schedule reads by %s "
-        "microseconds\n", (unsigned)plan->short_size, (unsigned)plan->blocks,
-        grouped(plan->time - 1).text);
-    start = text->len;
-    bytes_addf(text, " ");
-    for (uint32_t b = 0; b < plan->blocks; b++)
-        if (plan->is_short[b])
-            add_word(text, &start, 1, plain(b).text);
-    bytes_addf(text, "\n");
-}
-
-void plan_show(const struct plan *plan, const struct table *table, struct bytes *text)
-{
-    uint32_t most = most_on_a_disk(plan);
-    bytes_addf(text, "unit %u, tenancy %u: %u block%s\n", (unsigned)plan->unit, (unsigned)plan->tenancy,
-        (unsigned)plan->blocks, plan->blocks == 1 ? "" : "s");
-    bytes_addf(text, "R = %s microseconds = %u.%06u seconds\n", grouped(plan->time).text,
-        (unsigned)(plan->time / 1000000), (unsigned)(plan->time % 1000000));
-    if (plan->blocks > 0)
-        bytes_addf(text, "\ndisk  blocks\n");
-    for (uint32_t d = 0; d < RP_MOST_DISKS; d++)
-        if (plan->load[d] > 0)
-            show_disk(plan, d, most, text);
-    if (table != NULL && plan->blocks > 0)
-        show_timeline(plan, table, text);
-    show_short_set(plan, text);
+    expected.unit = unit_word == NULL ? NULL : &unit;
+    expected.tenancy = tenancy_word == NULL ? NULL : &tenancy;
+    if (!sheets_read(places[0], &sheets))
+        return STATUS_BAD;
+    sheets_tell(&sheets);
+    if (sheets.count == 0)
+        say("%s: there is no sheet in it", sheets.name);
+    status = sheets.count == 0 ? STATUS_BAD : show_all(&sheets, &expected);
+    if (status == STATUS_DONE && sheets.refusals > 0)
+        status = STATUS_TOLD;
+    sheets_free(&sheets);
+    return status;
 }

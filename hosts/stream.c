@@ -6,16 +6,20 @@
 #include "input.h"
 #include "options.h"
 #include "output.h"
+#include "program.h"
+#include "rippleplank.h"
 #include "say.h"
 
+enum { MOST_ROOM = 4096 };
+
 static const char USAGE[] =
-    "usage: stream UNIT CALL...\n"
-    "       stream --help\n";
+    "usage: stream [-o FILE] UNIT CALL...\n"
+    "       stream --help | --version\n";
 
 static const char HELP[] =
     "\n"
-    "Writes to standard output what the shelf program reads: the number of the unit and the calls,\n"
-    "in this order. A CALL is one of\n"
+    "Writes to FILE, or to standard output, what the shelf program reads: the number of the unit\n"
+    "and the calls, in this order. A CALL is one of\n"
     "\n"
     "    rent TENANCY         begins a hire\n"
     "    settings FILE        sends a settings sheet\n"
@@ -23,12 +27,6 @@ static const char HELP[] =
     "    return TENANCY       ends the hire\n"
     "\n"
     "Exit status: 0 written; 1 a file can not be used; 2 called wrongly.\n";
-
-static int usage(void)
-{
-    fputs(USAGE, stderr);
-    return STATUS_USAGE;
-}
 
 /* A number in groups of seven bits, lowest first; a byte of 128 or more says that another follows. */
 static void put_number(struct bytes *out, uint32_t value)
@@ -43,6 +41,11 @@ static int put_sheet(struct bytes *out, const char *path)
 {
     struct bytes sheet = bytes_new();
     bool good = input_read(path, &sheet);
+    if (good && sheet.len > RP_LONGEST_REQUEST) {
+        say("%s: %s bytes, and no sheet has more than %s: the shelf would stop there", input_name(path),
+            grouped(sheet.len).text, grouped(RP_LONGEST_REQUEST).text);
+        good = false;
+    }
     if (good) {
         put_number(out, (uint32_t)sheet.len);
         bytes_add(out, sheet.at, sheet.len);
@@ -71,8 +74,13 @@ static int put_call(struct bytes *out, uint32_t kind, char **words)
     put_number(out, kind);
     if (kind == 2)
         return put_sheet(out, words[0]);
-    if (!place_number(kind == 3 ? "ROOM" : "TENANCY", words[0], &number))
-        return usage();
+    if (!word_number(kind == 3 ? "ROOM" : "TENANCY", words[0], &number))
+        return program_usage();
+    if (kind == 3 && number > MOST_ROOM) {
+        say("ROOM is %s, and the shelf stops above %s; %s hold every plan", grouped(number).text,
+            grouped(MOST_ROOM).text, grouped(RP_LONGEST_PLAN).text);
+        return program_usage();
+    }
     put_number(out, number);
     return kind == 3 ? put_sheet(out, words[1]) : STATUS_DONE;
 }
@@ -85,33 +93,45 @@ static int put_calls(struct bytes *out, int count, char **words)
         uint32_t kind = kind_of(words[i], &due);
         if (kind == 0 || count - i - 1 < due) {
             if (kind == 0)
-                say("there is no call \"%s\"", words[i]);
+                say("there is no call \"%s\"", shown(span_of(words[i])).text);
             else
                 say("%s needs %s", words[i], due == 1 ? "a word" : "two words");
-            return usage();
+            return program_usage();
         }
         status = put_call(out, kind, words + i + 1);
     }
     return status;
 }
 
-int main(int count, char **words)
+static int frame(char **words)
 {
+    const char *path = NULL;
     struct bytes out;
     uint32_t unit;
-    int status;
-    say_as("stream");
-    if (asks_help(count, words)) {
-        printf("%s%s", USAGE, HELP);
-        return fflush(stdout) == 0 ? STATUS_DONE : STATUS_BAD;
+    int count = 0, status;
+    if (strcmp(words[0], "-o") == 0) {
+        path = words[1];
+        words += path == NULL ? 1 : 2;
     }
-    if (count < 2 || !place_number("UNIT", words[1], &unit))
-        return usage();
+    while (words[count] != NULL)
+        count++;
+    if (count < 1) {
+        say("1 more word is due");
+        return program_usage();
+    }
+    if (!word_number("UNIT", words[0], &unit))
+        return program_usage();
     out = bytes_new();
     put_number(&out, unit);
-    status = put_calls(&out, count - 2, words + 2);
-    if (status == STATUS_DONE && !output_write(NULL, out.at, out.len))
+    status = put_calls(&out, count - 1, words + 1);
+    if (status == STATUS_DONE && !output_bytes(path, out.at, out.len))
         status = STATUS_BAD;
     bytes_free(&out);
     return status;
+}
+
+int main(int count, char **words)
+{
+    static const struct program STREAM = { "stream", USAGE, HELP, NULL, frame };
+    return program_main(&STREAM, count, words);
 }

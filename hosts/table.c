@@ -5,92 +5,278 @@
 #include <string.h>
 
 #include "bytes.h"
+#include "contents.h"
+#include "csv.h"
+#include "faults.h"
 #include "input.h"
 #include "say.h"
 
-static const char *const COLUMNS[3] = { "cost", "load", "delay" };
+enum { DISK, COST, LOAD, DELAY, COLUMNS, NO_COLUMN = COLUMNS };
 
-/* The parts of a line between commas; gives how many there are, of which three are kept. */
-static size_t split(struct span line, struct span parts[3])
+static const struct {
+    const char *name;
+    uint32_t least, most;
+} COLUMN[COLUMNS] = {
+    [DISK] = { "disk", 0, RP_MOST_DISKS - 1 },
+    [COST] = { "cost", 1, RP_MOST_COST },
+    [LOAD] = { "load", 0, RP_MOST_LOAD },
+    [DELAY] = { "delay", 0, RP_MOST_DELAY },
+};
+
+/* How the cells of a line stand. */
+struct layout {
+    char separator;
+    size_t width;
+    unsigned column[MOST_CELLS];    /* of each cell; NO_COLUMN for one without a name */
+    bool has[COLUMNS];
+};
+
+/* A table as it is read. */
+struct reading {
+    const char *name;
+    struct layout layout;
+    struct bytes rows;
+    struct faults faults;
+    struct gaps gaps;               /* empty lines between rows */
+    unsigned taken_out;             /* the line of the first row in a comment, 0 for none */
+    unsigned commented;             /* the same, where a row follows */
+    bool unreadable;                /* something is no number, and not only out of its range */
+};
+
+/* A fault for which no sheet can be tried. */
+#define BAD(reading, ...) ((reading)->unreadable = true, faults_add(&(reading)->faults, __VA_ARGS__))
+
+static unsigned column_of(struct span name)
 {
-    struct span part;
+    unsigned column = 0;
+    while (column < COLUMNS && !span_is_any_case(name, COLUMN[column].name))
+        column++;
+    return column;
+}
+
+/* How many cells of a line are names of columns. */
+static size_t names_in(struct span line, char separator)
+{
+    struct cells cells = csv_split(line, separator);
     size_t count = 0;
-    while (span_next(&line, ",", &part)) {
-        if (count < 3)
-            parts[count] = trimmed(part);
-        count++;
-    }
+    for (size_t i = 0; i < cells.count && i < MOST_CELLS; i++)
+        count += column_of(cells.cell[i]) < COLUMNS;
     return count;
 }
 
-static bool is_header(struct span line)
+/* The separator by which a line names most columns. */
+static char separator_of(struct span line)
 {
-    struct span parts[3];
-    if (split(line, parts) != 3)
+    static const char SEPARATORS[] = ",;\t";
+    char best = ',';
+    for (size_t i = 1; SEPARATORS[i] != '\0'; i++)
+        if (names_in(line, SEPARATORS[i]) > names_in(line, best))
+            best = SEPARATORS[i];
+    return best;
+}
+
+static const char FIRST_LINE[] = "the first line has to name the columns cost, load and delay";
+
+/* The line that names the columns. */
+static void read_names(struct reading *r, unsigned number, struct span line)
+{
+    struct cells cells = csv_split(line, r->layout.separator);
+    if (names_in(line, r->layout.separator) == 0 || cells.count > MOST_CELLS) {
+        BAD(r, "%s:%u: %s, not \"%s\"", r->name, number, FIRST_LINE, shown(trimmed(line)).text);
+        return;
+    }
+    r->layout.width = cells.count;
+    for (size_t i = 0; i < cells.count; i++) {
+        unsigned column = column_of(cells.cell[i]);
+        r->layout.column[i] = column;
+        if (column == NO_COLUMN && cells.cell[i].len > 0)
+            BAD(r, "%s:%u: there is no column \"%s\"; a table has cost, load and delay, and disk if you like",
+                r->name, number, shown(cells.cell[i]).text);
+        else if (column < COLUMNS && r->layout.has[column])
+            BAD(r, "%s:%u: two columns are called %s", r->name, number, COLUMN[column].name);
+        else if (column < COLUMNS)
+            r->layout.has[column] = true;
+    }
+    for (unsigned column = COST; column < COLUMNS; column++)
+        if (!r->layout.has[column])
+            BAD(r, "%s:%u: the column %s is missing: %s", r->name, number, COLUMN[column].name, FIRST_LINE);
+}
+
+/* Adds a value that is out of its range. */
+static void add_outside(struct faults *faults, const char *name, const struct row *row, size_t disk,
+    unsigned column, uint32_t value)
+{
+    if (value < COLUMN[column].least || value > COLUMN[column].most)
+        faults_add(faults, "%s:%u: disk %zu: the %s %s is not %u to %s", name, row->line, disk,
+            COLUMN[column].name, grouped(value).text, (unsigned)COLUMN[column].least,
+            grouped(COLUMN[column].most).text);
+}
+
+static void add_row_faults(struct faults *faults, const char *name, const struct row *row, size_t disk)
+{
+    add_outside(faults, name, row, disk, COST, row->cost);
+    add_outside(faults, name, row, disk, LOAD, row->load);
+    add_outside(faults, name, row, disk, DELAY, row->delay);
+}
+
+/* One cell's number; where it is none the value stays what it is. */
+static void read_cell(struct reading *r, unsigned number, size_t disk, unsigned column, struct span cell,
+    uint32_t *value)
+{
+    if (!number_of(cell, value))
+        BAD(r, "%s:%u: disk %zu: the %s \"%s\" is not a whole number of %u to %s", r->name, number, disk,
+            COLUMN[column].name, shown(cell).text, (unsigned)COLUMN[column].least,
+            grouped(COLUMN[column].most).text);
+}
+
+/* Whether a line has as many values as there are columns; more are none if they are empty. */
+static bool right_width(struct reading *r, unsigned number, const struct cells *cells)
+{
+    size_t filled = cells->count;
+    if (cells->wrong != NULL) {
+        BAD(r, "%s:%u: %s", r->name, number, cells->wrong);
         return false;
-    for (size_t i = 0; i < 3; i++)
-        if (parts[i].len != strlen(COLUMNS[i]) || memcmp(parts[i].at, COLUMNS[i], parts[i].len) != 0)
+    }
+    while (filled > r->layout.width && filled <= MOST_CELLS && cells->cell[filled - 1].len == 0)
+        filled--;
+    if (filled == r->layout.width)
+        return true;
+    BAD(r, "%s:%u: %zu value%s on a line that needs %zu, as the first line has", r->name, number, filled,
+        filled == 1 ? "" : "s", r->layout.width);
+    return false;
+}
+
+/* One disk. */
+static void read_row(struct reading *r, unsigned number, const struct cells *cells)
+{
+    size_t disk = r->rows.len / sizeof(struct row);
+    uint32_t value[COLUMNS + 1] = { (uint32_t)disk, 1, 0, 0, 0 };
+    struct row row;
+    bool good = right_width(r, number, cells);
+    for (size_t i = 0; good && i < r->layout.width; i++) {
+        unsigned column = r->layout.column[i];
+        if (column < COLUMNS)
+            read_cell(r, number, disk, column, cells->cell[i], &value[column]);
+        else if (cells->cell[i].len > 0)
+            BAD(r, "%s:%u: \"%s\" stands in a column without a name", r->name, number,
+                shown(cells->cell[i]).text);
+    }
+    if (value[DISK] != disk)
+        BAD(r, "%s:%u: disk %u stands where disk %zu is due; give every disk a row, in order", r->name, number,
+            (unsigned)value[DISK], disk);
+    row = (struct row){ value[COST], value[LOAD], value[DELAY], number };
+    add_row_faults(&r->faults, r->name, &row, disk);
+    bytes_add(&r->rows, &row, sizeof row);
+}
+
+/* Whether a comment is a row that was taken out. */
+static bool is_row_in_comment(const struct reading *r, struct span line)
+{
+    struct cells cells;
+    uint32_t value;
+    line = trimmed(line);
+    while (line.len > 0 && line.at[0] == '#')
+        line = trimmed((struct span){ line.at + 1, line.len - 1 });
+    cells = csv_split(line, r->layout.separator);
+    if (cells.count != r->layout.width || cells.count > MOST_CELLS)
+        return false;
+    for (size_t i = 0; i < cells.count; i++)
+        if (!number_of(cells.cell[i], &value))
             return false;
     return true;
 }
 
-/* One row of three numbers, or says what is wrong with its line. */
-static bool read_row(const char *name, unsigned number, struct span line, struct row *row)
+/* A line below the names. */
+static void read_line(struct reading *r, unsigned number, struct span line)
 {
-    struct span parts[3];
-    uint32_t values[3];
-    size_t count = split(line, parts);
-    if (count != 3) {
-        say("%s:%u: %zu value%s on a line that needs three: cost,load,delay", name, number, count,
-            count == 1 ? "" : "s");
+    struct cells cells = csv_split(line, r->layout.separator);
+    bool empty = csv_empty(&cells);
+    if (cells.comment_only && r->taken_out == 0 && is_row_in_comment(r, line))
+        r->taken_out = number;
+    if (r->rows.len > 0)
+        gaps_take(&r->gaps, number, empty && !cells.comment_only ? span_of("") : line,
+            empty ? span_of("") : line);
+    if (!empty) {
+        read_row(r, number, &cells);
+        r->commented = r->taken_out;
+    }
+}
+
+/* The line that some programs put first to say which separator follows: sep=; */
+static bool is_separator_line(struct span line, char *separator)
+{
+    line = trimmed(line);
+    if (line.len != 5 || !span_is_any_case((struct span){ line.at, 4 }, "sep="))
         return false;
-    }
-    for (size_t i = 0; i < 3; i++) {
-        if (!number_of(parts[i].at, parts[i].len, &values[i])) {
-            say("%s:%u: the %s \"%s\" is not a whole number of 0 to 4,294,967,295", name, number,
-                COLUMNS[i], shown(parts[i]).text);
-            return false;
-        }
-    }
-    *row = (struct row){ values[0], values[1], values[2], number };
+    *separator = line.at[4];
     return true;
 }
 
-static bool read_rows(const struct bytes *text, struct bytes *rows, const char *name)
+/* Reads everything; what is wrong is in the faults. */
+static void read_all(struct reading *r, const struct bytes *text)
 {
     struct lines lines = lines_of(text);
     struct span line;
-    struct row row;
-    if (!lines_next(&lines, &line)) {
-        say("%s: there is no table: the first line has to be cost,load,delay", name);
-        return false;
-    }
-    if (!is_header(line)) {
-        say("%s:%u: the first line has to be cost,load,delay, not \"%s\"", name, lines.number,
-            shown(line).text);
-        return false;
-    }
+    bool named = false;
     while (lines_next(&lines, &line)) {
-        if (!read_row(name, lines.number, line, &row))
-            return false;
-        bytes_add(rows, &row, sizeof row);
+        if (named)
+            read_line(r, lines.number, line);
+        else if (is_separator_line(line, &r->layout.separator) || code_of(line).len == 0)
+            continue;
+        else {
+            if (r->layout.separator == '\0')
+                r->layout.separator = separator_of(line);
+            read_names(r, lines.number, line);
+            if (r->unreadable)
+                return;
+            named = true;
+        }
     }
-    return true;
+    if (!named)
+        BAD(r, "%s: there is no table: %s", r->name, FIRST_LINE);
 }
 
-bool table_read(const char *path, struct table *table)
+/* What was passed over in silence, where the numbers of the disks rest on it. */
+static void tell_passed_over(const struct reading *r)
+{
+    if (r->layout.has[DISK])
+        return;
+    if (r->commented > 0)
+        say("%s:%u: a row in a comment is no disk: the rows below it have moved up; a column disk would keep the "
+            "numbers", r->name, r->commented);
+    if (r->gaps.count > 0)
+        say("%s:%u: an empty line is no disk (%u such); a column disk would keep the numbers", r->name,
+            r->gaps.first, r->gaps.count);
+}
+
+static bool read_text(const struct bytes *text, const char *name, struct table *table)
+{
+    struct reading r = { .name = name, .rows = bytes_new(), .faults = faults_new() };
+    read_all(&r, text);
+    if (r.unreadable) {
+        faults_say(&r.faults);
+        bytes_free(&r.rows);
+    } else {
+        tell_passed_over(&r);
+        *table = (struct table){ name, (struct row *)(void *)r.rows.at, r.rows.len / sizeof(struct row) };
+    }
+    faults_free(&r.faults);
+    return !r.unreadable;
+}
+
+bool table_read(const char *path, const struct expected *expected, struct table *table)
 {
     struct bytes text = bytes_new();
-    struct bytes rows = bytes_new();
     const char *name = input_name(path);
-    bool good = input_read(path, &text) && read_rows(&text, &rows, name);
-    bytes_free(&text);
-    if (!good) {
-        bytes_free(&rows);
-        return false;
+    bool good = input_read(path, &text);
+    if (good && contents_begin(&text)) {
+        good = contents_table(&text, name, *expected, table);
+    } else if (good) {
+        text_plain(&text);
+        good = read_text(&text, name, table);
     }
-    *table = (struct table){ name, (struct row *)(void *)rows.at, rows.len / sizeof(struct row) };
-    return true;
+    bytes_free(&text);
+    return good;
 }
 
 void table_free(struct table *table)
@@ -100,48 +286,22 @@ void table_free(struct table *table)
     table->count = 0;
 }
 
-/* A value of a row that is out of its range, in words; false where it is within. */
-static bool outside(struct bytes *why, const char *what, uint32_t value, uint32_t least, uint32_t most)
-{
-    if (value >= least && value <= most)
-        return false;
-    bytes_addf(why, "the %s %s is not %u to %s", what, grouped(value).text, (unsigned)least,
-        grouped(most).text);
-    return true;
-}
-
-/* Where a table that got refusal 6 is out of range. */
-static void find_fault(const struct table *table, uint32_t tenancy, struct bytes *why)
-{
-    if (tenancy == 0) {
-        bytes_addf(why, "TENANCY is 0, and no tenancy is");
-        return;
-    }
-    if (table->count < 1 || table->count > RP_MOST_DISKS) {
-        bytes_addf(why, "%s: %zu disks, and a unit has 1 to %d", table->name, table->count,
-            RP_MOST_DISKS);
-        return;
-    }
-    for (size_t i = 0; i < table->count; i++) {
-        const struct row *row = &table->rows[i];
-        size_t before = why->len;
-        bytes_addf(why, "%s:%u: disk %zu: ", table->name, row->line, i);
-        if (outside(why, "cost", row->cost, 1, RP_MOST_COST)
-            || outside(why, "load", row->load, 0, RP_MOST_LOAD)
-            || outside(why, "delay", row->delay, 0, RP_MOST_DELAY))
-            return;
-        why->len = before;
-    }
-}
-
+/* Says why a table was refused, with everything that is out of range. */
 static void say_fault(const struct table *table, uint32_t tenancy, unsigned refusal)
 {
-    struct bytes why = bytes_new();
-    find_fault(table, tenancy, &why);
-    bytes_add(&why, "", 1);
-    say_refused(refusal, why.len > 1 ? (char *)why.at : NULL,
-        tenancy == 0 ? "give the number of the hire" : "correct the table and run this again");
-    bytes_free(&why);
+    struct faults faults = faults_new();
+    const char *cure = "correct the table and run this again";
+    if (tenancy == 0) {
+        faults_add(&faults, "TENANCY is 0, and no tenancy is");
+        cure = "give the number of the hire";
+    } else if (table->count < 1 || table->count > RP_MOST_DISKS) {
+        faults_add(&faults, "%s: %zu disks, and a unit has 1 to %d", table->name, table->count, RP_MOST_DISKS);
+    } else {
+        for (size_t i = 0; i < table->count; i++)
+            add_row_faults(&faults, table->name, &table->rows[i], i);
+    }
+    say_refused(refusal, faults_text(&faults), cure);
+    faults_free(&faults);
 }
 
 uint32_t table_sheet(const struct table *table, uint32_t unit, uint32_t tenancy,

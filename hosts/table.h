@@ -1,4 +1,7 @@
-/* A table of disks: CSV with the header line cost,load,delay; comments from # on and blank lines allowed. */
+/*
+ * A table of disks: CSV whose first line names the columns cost, load and delay, and disk if one likes, in any order;
+ * or the settings sheet itself, as bytes.
+ */
 #ifndef TABLE_H
 #define TABLE_H
 
@@ -12,7 +15,7 @@ struct row {
     uint32_t cost;
     uint32_t load;
     uint32_t delay;
-    unsigned line;      /* where it stands in the file */
+    unsigned line;      /* where it stands in the file; 0 where it comes from a sheet */
 };
 
 struct table {
@@ -21,8 +24,10 @@ struct table {
     size_t count;
 };
 
-/* Reads a table, or says which line is bad. */
-bool table_read(const char *path, struct table *table);
+struct expected;
+
+/* Reads a table, or says everything that is wrong with it; of a sheet, unit and tenancy are as expected. */
+bool table_read(const char *path, const struct expected *expected, struct table *table);
 void table_free(struct table *table);
 
 /* The settings sheet of a table; gives its length, or says why it is refused and gives 0. */

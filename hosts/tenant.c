@@ -3,18 +3,23 @@
 #include <string.h>
 
 #include "blocks.h"
+#include "contents.h"
 #include "options.h"
 #include "output.h"
 #include "plan.h"
+#include "program.h"
 #include "rippleplank.h"
 #include "say.h"
 #include "sheet.h"
+#include "show.h"
 #include "table.h"
 
 static const char USAGE[] =
     "usage: tenant request UNIT TENANCY DISKS [LIST] [-o FILE]\n"
-    "       tenant plan UNIT TENANCY [SHEET] [--disks TABLE [--svg FILE]]\n"
-    "       tenant --help\n";
+    "       tenant plan UNIT TENANCY [SHEET] [--nth N] [--disks TABLE [--svg FILE]] [--request LIST]\n"
+    "                   [--by-block | --json | --line | --time]\n"
+    "       tenant show [SHEET] [--unit UNIT] [--tenancy TENANCY] [--disks N]\n"
+    "       tenant --help | --version\n";
 
 static const char HELP[] =
     "\n"
@@ -24,49 +29,104 @@ static const char HELP[] =
     "LIST is a file of text, by default standard input: a line for each block in turn, at most\n"
     "1,024, with the numbers of the 1 to 8 disks that hold it, in any order, parted by blanks or\n"
     "any of , ; | / and a line of a single - for a block that no disk holds (such a request is\n"
-    "refused). What follows a # is a comment; comments and blank lines are passed over.\n"
+    "refused). A block's number and a colon may stand before its disks, and are then checked. What\n"
+    "follows a # is a comment. Empty lines are no blocks; one that stands among blocks, with no\n"
+    "comment beside it, is told, and so is a block in a comment, unless the lines have numbers.\n"
+    "\n"
+    "    0: 0 1\n"
+    "    1: 0 1       # the same two disks\n"
     "\n"
     "plan reads a plan sheet of UNIT and TENANCY and shows its time R, the blocks of each disk and\n"
     "the short set: the blocks that can not all be read one microsecond sooner.\n"
     "\n"
-    "SHEET is a file, by default standard input: the sheet itself, or its bytes in hex, or what\n"
-    "the shelf printed, with one line of plan and hex digits.\n"
-    "--disks TABLE   the table of disks that the settings sheet was made from (see desk --help):\n"
-    "                shows when each disk starts and ends, and the timeline to R\n"
+    "SHEET is a file, by default standard input: the sheet itself, or its bytes in hex or as xxd\n"
+    "or hexdump show them, or what the shelf printed. Of several plans the one of UNIT and TENANCY\n"
+    "is taken. What the shelf refused is told on standard error, and the exit status is 3.\n"
+    "--nth N         the Nth plan of UNIT and TENANCY, where there are several\n"
+    "--disks TABLE   the table of disks that the settings sheet was made from (see desk --help), or\n"
+    "                that sheet: shows when each disk starts and ends, and the timeline to R\n"
     "--svg FILE      writes that timeline as a picture, with the short set's blocks marked\n"
+    "--request LIST  the list that the request was made from, or that sheet: checks that every\n"
+    "                block is read from a disk that holds it; with --disks also that R is least,\n"
+    "                and shows why: the disks of the short set and their room before R\n"
+    "--by-block      shows each block's disk too\n"
+    "--json          one line of JSON\n"
+    "--line          the line that the bench program prints\n"
+    "--time          R alone\n"
     "\n"
-    "Files are written whole or not at all, and not at all where something is refused.\n"
-    "Exit status: 0 done; 1 refused, or a file can not be used; 2 called wrongly.\n";
-
-static int usage(void)
-{
-    fputs(USAGE, stderr);
-    return STATUS_USAGE;
-}
+    "show shows any sheet field by field with the places of its bytes, and where it is refused. The\n"
+    "options say what is expected of it.\n"
+    "\n"
+    "Files are written whole or not at all, not at all where something is refused, and never over\n"
+    "an input or a read-only file.\n"
+    "Exit status: 0 done; 1 refused, or a file can not be used; 2 called wrongly; 3 the plan is\n"
+    "shown, and the shelf refused another call or stopped.\n";
 
 static int request(char **words)
 {
     const char *places[4] = { NULL, NULL, NULL, NULL }, *out = NULL;
-    const struct option_value options[] = { { "-o", &out } };
+    const struct option options[] = { { "-o", &out, NULL }, { NULL, NULL, NULL } };
     static uint8_t sheet[RP_LONGEST_REQUEST];
     uint32_t unit, tenancy, disks, len;
     struct blocks blocks;
-    if (!options_read(words, places, 3, 4, options, 1) || !place_number("UNIT", places[0], &unit)
-        || !place_number("TENANCY", places[1], &tenancy) || !place_number("DISKS", places[2], &disks))
-        return usage();
-    if (!blocks_read(places[3], &blocks))
+    if (!options_read(words, places, 3, 4, options) || !word_number("UNIT", places[0], &unit)
+        || !word_number("TENANCY", places[1], &tenancy) || !word_number("DISKS", places[2], &disks))
+        return program_usage();
+    if (!blocks_read(places[3], &ANYTHING, &blocks))
         return STATUS_BAD;
     len = blocks_sheet(&blocks, unit, tenancy, disks, sheet);
+    if (len > 0 && blocks.count == 0)
+        say("%s: there is no block in it: this request asks for nothing", blocks.name);
     blocks_free(&blocks);
-    return len > 0 && output_write(out, sheet, len) ? STATUS_DONE : STATUS_BAD;
+    return len > 0 && output_bytes(out, sheet, len) ? STATUS_DONE : STATUS_BAD;
 }
 
-/* Reads the plan of a sheet's file. */
-static bool read_plan(const char *path, uint32_t unit, uint32_t tenancy, struct plan *plan)
+/* What `tenant plan` is asked for. */
+struct wish {
+    const char *places[3];
+    const char *nth, *disks, *picture, *request;
+    bool by_block, json, line, time;
+    uint32_t unit, tenancy, number;
+};
+
+static bool read_wish(char **words, struct wish *w)
 {
-    struct bytes sheet = bytes_new();
-    bool good = sheet_read(path, &sheet) && plan_read(&sheet, unit, tenancy, plan);
-    bytes_free(&sheet);
+    const struct option options[] = {
+        { "--nth", &w->nth, NULL }, { "--disks", &w->disks, NULL }, { "--svg", &w->picture, NULL },
+        { "--request", &w->request, NULL }, { "--by-block", NULL, &w->by_block }, { "--json", NULL, &w->json },
+        { "--line", NULL, &w->line }, { "--time", NULL, &w->time }, { NULL, NULL, NULL }
+    };
+    memset(w, 0, sizeof *w);
+    if (!options_read(words, w->places, 2, 3, options) || !word_number("UNIT", w->places[0], &w->unit)
+        || !word_number("TENANCY", w->places[1], &w->tenancy)
+        || (w->nth != NULL && !word_number("--nth", w->nth, &w->number)))
+        return false;
+    if (w->nth != NULL && w->number == 0)
+        say("--nth counts from 1");
+    else if (w->by_block + w->json + w->line + w->time > 1)
+        say("--by-block, --json, --line and --time are four ways to show one plan; give one of them");
+    else if (w->picture != NULL && w->disks == NULL)
+        say("--svg draws times, so it needs --disks TABLE");
+    else if (w->picture != NULL && output_is_standard(w->picture))
+        say("--svg %s: standard output gets the text; give the picture a file of its own", w->picture);
+    else
+        return true;
+    return false;
+}
+
+/* Reads the plan of a sheet's file; what the shelf refused beside it is told. */
+static bool read_plan(const struct wish *w, struct plan *plan, bool *told)
+{
+    struct sheets sheets;
+    const struct found *found;
+    bool good;
+    if (!sheets_read(w->places[2], &sheets))
+        return false;
+    sheets_tell(&sheets);
+    *told = sheets.refusals > 0;
+    found = sheets_plan(&sheets, w->unit, w->tenancy, w->number);
+    good = found != NULL && plan_read(sheets.name, found, w->unit, w->tenancy, plan);
+    sheets_free(&sheets);
     return good;
 }
 
@@ -74,7 +134,8 @@ static bool read_plan(const char *path, uint32_t unit, uint32_t tenancy, struct 
 static bool read_table(const char *path, const struct plan *plan, struct table *table)
 {
     uint8_t sheet[RP_LONGEST_SETTINGS];
-    if (!table_read(path, table))
+    const struct expected expected = { &plan->unit, &plan->tenancy, RP_MOST_DISKS, 0 };
+    if (!table_read(path, &expected, table))
         return false;
     if (table_sheet(table, plan->unit, plan->tenancy, sheet) > 0 && plan_fits(plan, table))
         return true;
@@ -82,15 +143,48 @@ static bool read_table(const char *path, const struct plan *plan, struct table *
     return false;
 }
 
+/* Reads the plan's request, which has to be one that a unit of so many disks would take. */
+static bool read_request(const char *path, const struct plan *plan, uint32_t disks, struct blocks *blocks)
+{
+    static uint8_t sheet[RP_LONGEST_REQUEST];
+    const struct expected expected = { &plan->unit, &plan->tenancy, disks, 0 };
+    return blocks_read(path, &expected, blocks)
+        && blocks_sheet(blocks, plan->unit, plan->tenancy, disks, sheet) > 0 && plan_holds(plan, blocks);
+}
+
+/* Reads what the plan is held against. */
+static bool read_rest(const struct wish *w, const struct plan *plan, struct table *table, struct blocks *blocks,
+    struct reason *reason)
+{
+    if (w->disks != NULL && !read_table(w->disks, plan, table))
+        return false;
+    if (w->request == NULL)
+        return true;
+    return read_request(w->request, plan, w->disks == NULL ? RP_MOST_DISKS : (uint32_t)table->count, blocks)
+        && (w->disks == NULL || plan_reason(plan, blocks, table, reason));
+}
+
+static void add_plan(const struct wish *w, const struct view *view, struct bytes *text)
+{
+    if (w->json)
+        plan_json(view, text);
+    else if (w->line)
+        plan_line(view->plan, text);
+    else if (w->time)
+        bytes_addf(text, "%u\n", (unsigned)view->plan->time);
+    else
+        plan_show(view, text);
+}
+
 /* The picture first: where it can not be written, nothing is shown. */
-static bool put_plan(const struct plan *plan, const struct table *table, const char *picture)
+static bool put_plan(const struct wish *w, const struct view *view)
 {
     struct bytes text = bytes_new(), svg = bytes_new();
     bool good = true;
-    plan_show(plan, table, &text);
-    if (picture != NULL) {
-        plan_draw(plan, table, &svg);
-        good = output_write(picture, svg.at, svg.len);
+    add_plan(w, view, &text);
+    if (w->picture != NULL) {
+        plan_draw(view, &svg);
+        good = output_write(w->picture, svg.at, svg.len);
     }
     good = good && output_write(NULL, text.at, text.len);
     bytes_free(&text);
@@ -100,41 +194,28 @@ static bool put_plan(const struct plan *plan, const struct table *table, const c
 
 static int plan(char **words)
 {
-    const char *places[3] = { NULL, NULL, NULL }, *disks = NULL, *picture = NULL;
-    const struct option_value options[] = { { "--disks", &disks }, { "--svg", &picture } };
     static struct plan plan;
+    struct wish w;
     struct table table = { NULL, NULL, 0 };
-    uint32_t unit, tenancy;
-    bool good;
-    if (!options_read(words, places, 2, 3, options, 2) || !place_number("UNIT", places[0], &unit)
-        || !place_number("TENANCY", places[1], &tenancy))
-        return usage();
-    if (picture != NULL && disks == NULL) {
-        say("--svg draws times, so it needs --disks TABLE");
-        return usage();
-    }
-    if (!read_plan(places[2], unit, tenancy, &plan))
-        return STATUS_BAD;
-    if (disks != NULL && !read_table(disks, &plan, &table))
-        return STATUS_BAD;
-    good = put_plan(&plan, disks == NULL ? NULL : &table, picture);
+    struct blocks blocks = { NULL, NULL, 0 };
+    struct reason reason;
+    bool good, told = false;
+    if (!read_wish(words, &w))
+        return program_usage();
+    good = read_plan(&w, &plan, &told) && read_rest(&w, &plan, &table, &blocks, &reason)
+        && put_plan(&w, &(struct view){ &plan, w.disks == NULL ? NULL : &table,
+            w.request == NULL ? NULL : &blocks, w.disks == NULL || w.request == NULL ? NULL : &reason, w.by_block,
+            output_width() });
     table_free(&table);
-    return good ? STATUS_DONE : STATUS_BAD;
+    blocks_free(&blocks);
+    return !good ? STATUS_BAD : told ? STATUS_TOLD : STATUS_DONE;
 }
 
 int main(int count, char **words)
 {
-    say_as("tenant");
-    if (asks_help(count, words)) {
-        printf("%s%s", USAGE, HELP);
-        return fflush(stdout) == 0 ? STATUS_DONE : STATUS_BAD;
-    }
-    if (count < 2)
-        return usage();
-    if (strcmp(words[1], "request") == 0)
-        return request(words + 2);
-    if (strcmp(words[1], "plan") == 0)
-        return plan(words + 2);
-    say("there is no command \"%s\"", words[1]);
-    return usage();
+    static const struct command COMMANDS[] = {
+        { "request", request }, { "plan", plan }, { "show", show_sheets }, { NULL, NULL }
+    };
+    static const struct program TENANT = { "tenant", USAGE, HELP, COMMANDS, NULL };
+    return program_main(&TENANT, count, words);
 }

@@ -1,7 +1,8 @@
 /*
  * rippleplank.h - the desk end of Rippleplank: write settings sheets and read requests, read plans.
  *
- * Link with libdesk.a. For C11 and C++11 or later. docs/ABI.md has the layouts with worked examples.
+ * Link with librippleplank.a: cc program.c $(pkg-config --cflags --libs rippleplank). For C11 and C++11 or later.
+ * docs/ABI.md has the layouts with worked examples.
  *
  * Glossary
  *   unit        the number of a rented shelf; any 32-bit number
@@ -15,7 +16,8 @@
  *   refusal     0 accepted, else why not: RP_SHEET_ENDS and on, 1 to 14
  *
  * What a caller owes, for every pointer: it is not null, its length is the number of bytes that may be
- * read there (or, for `out`, `disks` and `short_set`, written), and no lent buffer overlaps another.
+ * read there (or, for `out`, `disks` and `short_set`, written), and what is lent to be written overlaps
+ * nothing else that is lent; lists that are only read may be one buffer.
  * For a length of 0 any valid address will do. Nothing else is asked: every number and every content
  * of a buffer has a determined answer, and a refused call changes no buffer.
  *
@@ -31,6 +33,9 @@
 #ifdef __cplusplus
 extern "C" {
 #endif
+
+/* The version of this header. That of the library which is linked is rp_version(). */
+#define RP_VERSION "1.0.0"
 
 /* The refusals. The desk end gives 1 to 9 and 11; a unit gives 10 and 12 to 14 as well. */
 enum {
@@ -117,6 +122,12 @@ uint64_t rp_write_request(uint32_t unit, uint32_t tenancy, uint32_t disks,
  */
 uint64_t rp_read_plan(uint32_t unit, uint32_t tenancy, const uint8_t *sheet, size_t sheet_len,
     uint8_t *disks, size_t disks_len, uint8_t *short_set, size_t short_set_len);
+
+/*
+ * The version of the library that is linked, as RP_VERSION. The two are the same unless a header and a library of
+ * different versions are installed.
+ */
+const char *rp_version(void);
 
 /* The refusal in any answer, bits 0 to 7: 0 is accepted. */
 static inline unsigned rp_refusal(uint64_t answer)

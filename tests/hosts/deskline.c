@@ -63,7 +63,7 @@ static bool list_of(struct span word, uint8_t **list, size_t *len)
 
 static bool room_of(struct span word, uint32_t *room)
 {
-    return number_of(word.at, word.len, room) && *room <= MOST_ROOM;
+    return number_of(word, room) && *room <= MOST_ROOM;
 }
 
 static void show_wrote(uint64_t answer, struct lent *out)
@@ -83,8 +83,8 @@ static bool settings(const struct span *words)
     uint32_t room, unit, tenancy;
     uint8_t *lists[3] = { NULL, NULL, NULL };
     size_t lens[3];
-    bool good = room_of(words[0], &room) && number_of(words[1].at, words[1].len, &unit)
-        && number_of(words[2].at, words[2].len, &tenancy) && list_of(words[3], &lists[0], &lens[0])
+    bool good = room_of(words[0], &room) && number_of(words[1], &unit)
+        && number_of(words[2], &tenancy) && list_of(words[3], &lists[0], &lens[0])
         && list_of(words[4], &lists[1], &lens[1]) && list_of(words[5], &lists[2], &lens[2]);
     if (good) {
         struct lent out = lend(room);
@@ -103,9 +103,9 @@ static bool request(const struct span *words)
     uint32_t room, unit, tenancy, disks;
     uint8_t *copies = NULL;
     size_t len;
-    bool good = room_of(words[0], &room) && number_of(words[1].at, words[1].len, &unit)
-        && number_of(words[2].at, words[2].len, &tenancy)
-        && number_of(words[3].at, words[3].len, &disks) && list_of(words[4], &copies, &len);
+    bool good = room_of(words[0], &room) && number_of(words[1], &unit)
+        && number_of(words[2], &tenancy)
+        && number_of(words[3], &disks) && list_of(words[4], &copies, &len);
     if (good) {
         struct lent out = lend(room);
         uint64_t answer = rp_write_request(unit, tenancy, disks, copies, len, out.at, out.len);
@@ -132,8 +132,8 @@ static bool plan(const struct span *words)
     uint32_t unit, tenancy, disk_room, set_room;
     uint8_t *sheet = NULL;
     size_t len;
-    bool good = number_of(words[0].at, words[0].len, &unit)
-        && number_of(words[1].at, words[1].len, &tenancy) && room_of(words[2], &disk_room)
+    bool good = number_of(words[0], &unit)
+        && number_of(words[1], &tenancy) && room_of(words[2], &disk_room)
         && room_of(words[3], &set_room) && list_of(words[4], &sheet, &len);
     if (good) {
         struct lent disks = lend(disk_room), set = lend(set_room);

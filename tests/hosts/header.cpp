@@ -13,7 +13,7 @@ int main()
     rp_put32(delays, 0, 1);
     std::uint64_t answer = rp_write_settings(7, 300, costs, 4, loads, 4, delays, 4, out, sizeof out);
     const bool good = rp_refusal(answer) == RP_ACCEPTED && rp_length(answer) == 8
-        && std::memcmp(out, "\x01\x07\xAC\x02\x01\x04\x00\x01", 8) == 0;
+        && std::memcmp(out, "\x01\x07\xAC\x02\x01\x04\x00\x01", 8) == 0 && std::strcmp(rp_version(), RP_VERSION) == 0;
     std::puts(good ? "good" : "not good");
     return good ? 0 : 1;
 }

@@ -2,25 +2,34 @@
 # The host tests: one line a test, a last line with the counts, status 1 if any failed.
 #   LIB     the library to test               (target/staticlib/libdesk.a)
 #   SHELF   the shelf program for the hire, with its arguments if it takes any  (target/bin/shelf)
-#   SECOND  the second program                (second/target/release/second)
+#   SECOND  the second program                (target/second/release/second)
 #   COUNT   how many lines to compare with it (6000)
+#   INPUTS  how many damaged inputs to try    (1500)
 #   OUT     the folder for what is built      (target/hosts-tests)
-# A test whose program is not there is failed, not passed over; SHELF=none or SECOND=none leaves it out.
+# Paths are relative to the top. A test whose program is not there is failed, not passed over; SHELF=none, SECOND=none or
+# PKG_CONFIG=none leaves it out.
 set -u
 export LC_ALL=C
-here=$(cd "$(dirname "$0")" && pwd)
-top=$(cd "$here/../.." && pwd)
-LIB=${LIB:-$top/target/staticlib/libdesk.a}
-SHELF=${SHELF:-$top/target/bin/shelf}
-SECOND=${SECOND:-$top/second/target/release/second}
+unset COLUMNS MAKEFLAGS MFLAGS
+cd "$(dirname "$0")/../.." || exit 1
+top=$PWD
+here=$top/tests/hosts
+LIB=${LIB:-target/staticlib/libdesk.a}
+SHELF=${SHELF:-target/bin/shelf}
+SECOND=${SECOND:-target/second/release/second}
 COUNT=${COUNT:-6000}
-OUT=${OUT:-$top/target/hosts-tests}
+INPUTS=${INPUTS:-1500}
+OUT=${OUT:-target/hosts-tests}
 CC=${CC:-cc}
 CXX=${CXX:-c++}
+PKG_CONFIG=${PKG_CONFIG:-pkg-config}
 strict='-Wall -Wextra -pedantic -Werror'
+# make can not name a file with a blank in its path, so it is given relative ones
+of_hosts() { case $1 in /*) printf '%s\n' "$1" ;; *) printf '../%s\n' "$1" ;; esac; }
 mkdir -p "$OUT" || exit 1
+make_out=$(of_hosts "$OUT")
+make_lib=$(of_hosts "$LIB")
 OUT=$(cd "$OUT" && pwd)
-case $LIB in /*) ;; *) LIB=$PWD/$LIB ;; esac
 work=$OUT/work
 results=$OUT/results
 : >"$results"
@@ -41,17 +50,17 @@ if ! { echo 'int main(void) { return 0; }' | $CC -x c $sanitize - -o "$OUT/trial
 fi
 
 # The programs, without a warning
-make -s -C "$top/hosts" OUT="$OUT" clean
+make -s -C hosts OUT="$make_out" clean
 rm -f "$OUT/exports" "$OUT/exports-plain" "$OUT/header" "$OUT/deskline"
-make -C "$top/hosts" LIB="$LIB" OUT="$OUT" CC="$CC" CFLAGS="-O1 -g -Werror $sanitize" >"$OUT/log" 2>&1
+make -C hosts LIB="$make_lib" OUT="$make_out" CC="$CC" CFLAGS="-O1 -g -Werror $sanitize" >"$OUT/log" 2>&1
 passed 'build: desk, tenant and stream, without a warning' $? "$OUT/log"
 
-parts="$top/hosts/bytes.c $top/hosts/hex.c $top/hosts/input.c $top/hosts/say.c"
+parts='hosts/bytes.c hosts/hex.c hosts/input.c hosts/say.c hosts/version.c'
 compile() { # compile PROGRAM FLAGS SOURCE..
     program=$1 flags=$2
     shift 2
     # shellcheck disable=SC2086
-    $CC -std=c11 -O1 -g $strict $flags -I"$top/include" -I"$top/hosts" "$@" "$LIB" -o "$OUT/$program" >"$OUT/log" 2>&1
+    $CC -std=c11 -O1 -g $strict $flags -Iinclude -Ihosts "$@" "$LIB" -o "$OUT/$program" >"$OUT/log" 2>&1
 }
 
 # The exported functions: a line for each test, and one for coming to the end
@@ -76,7 +85,7 @@ nm -g --defined-only "$LIB" 2>/dev/null | sed -n 's/.* T //p' | sort >"$OUT/log"
 printf 'rp_read_plan\nrp_write_request\nrp_write_settings\n' | cmp -s - "$OUT/log"
 passed 'library: exports exactly three functions' $? "$OUT/log"
 
-$CXX -std=c++11 $strict -I"$top/include" "$here/header.cpp" "$LIB" -o "$OUT/header" >"$OUT/log" 2>&1 \
+$CXX -std=c++11 $strict -Iinclude "$here/header.cpp" "$OUT/librippleplank.a" $sanitize -o "$OUT/header" >"$OUT/log" 2>&1 \
     && "$OUT/header" >>"$OUT/log" 2>&1
 passed 'header: from C++, without a warning' $? "$OUT/log"
 
@@ -99,13 +108,19 @@ done
 # The hire, from end to end, and its picture
 if [ "$SHELF" != none ]; then
     DESK=$OUT/desk TENANT=$OUT/tenant STREAM=$OUT/stream SHELF=$SHELF OUT=$OUT/hire \
-        sh "$top/examples/hire.sh" >"$OUT/hire.txt" 2>"$OUT/log"
+        sh examples/hire.sh >"$OUT/hire.txt" 2>"$OUT/log"
     passed 'hire: from desk to tenant' $? "$OUT/log"
     diff "$here/hire.txt" "$OUT/hire.txt" >"$OUT/log" 2>&1
     passed 'hire: what it shows' $? "$OUT/log"
-    diff "$top/examples/hire.svg" "$OUT/hire/hire.svg" >"$OUT/log" 2>&1
+    diff examples/hire.svg "$OUT/hire/hire.svg" >"$OUT/log" 2>&1
     passed 'hire: the picture' $? "$OUT/log"
 fi
+
+# Damaged inputs to the programs
+CC=$CC LIB=$LIB OUT=${make_out#../} FLAGS=$sanitize sh tests/hosts/fuzz.sh "$INPUTS" 1 >"$OUT/log" 2>&1
+passed "fuzz: $INPUTS damaged inputs" $? "$OUT/log"
+
+. "$here/installed.sh"
 
 # The exports against the second program
 if [ "$SECOND" != none ]; then

@@ -1,0 +1,499 @@
+#include "contents.h"
+
+#include <stdarg.h>
+#include <stdio.h>
+#include <string.h>
+
+#include "output.h"
+#include "remedy.h"
+#include "say.h"
+
+const struct expected ANYTHING = { NULL, NULL, RP_MOST_DISKS, 0 };
+
+/* Where the reader is. */
+struct reader {
+    const struct bytes *sheet;
+    const struct expected *expected;
+    struct contents *contents;
+    struct bytes *text;         /* null where nothing is to be shown */
+    size_t line;                /* the place where the line that is shown begins */
+    size_t at;                  /* beyond the number last read */
+    size_t start;               /* of that number */
+    uint32_t value;
+};
+
+/* ---- lines ---- */
+
+/* Adds the bytes from a place on, the digits of one number together. */
+static size_t add_digits(struct reader *r, size_t from, size_t to)
+{
+    size_t before = r->text->len;
+    for (size_t i = from; i < to; i++)
+        bytes_addf(r->text, "%02x%s", r->sheet->at[i], r->sheet->at[i] < 128 && i + 1 < to ? " " : "");
+    return r->text->len - before;
+}
+
+/* Adds the line of the numbers since the last one: its place, its bytes and words. */
+#if defined(__GNUC__)
+__attribute__((format(printf, 2, 3)))
+#endif
+static void put_line(struct reader *r, const char *form, ...)
+{
+    enum { WORDS = 28 };
+    char words[256];
+    va_list values;
+    size_t width;
+    if (r->text != NULL) {
+        va_start(values, form);
+        vsnprintf(words, sizeof words, form, values);
+        va_end(values);
+        bytes_addf(r->text, "%5zu  ", r->line);
+        width = add_digits(r, r->line, r->at);
+        bytes_addf(r->text, "%*s%s\n", width < WORDS ? (int)(WORDS - width) : 2, "", words);
+    }
+    r->line = r->at;
+}
+
+/* ---- numbers ---- */
+
+/* Names what is read next, for a message. */
+#if defined(__GNUC__)
+__attribute__((format(printf, 2, 3)))
+#endif
+static void next_is(struct reader *r, const char *form, ...)
+{
+    va_list values;
+    va_start(values, form);
+    vsnprintf(r->contents->what, sizeof r->contents->what, form, values);
+    va_end(values);
+}
+
+/* Refuses the number last read, or the place given. */
+static bool refuse(struct reader *r, unsigned refusal, size_t place)
+{
+    r->contents->refusal = refusal;
+    r->contents->place = place;
+    return false;
+}
+
+static bool refuse_because(struct reader *r, unsigned refusal, const char *form, ...)
+{
+    va_list values;
+    va_start(values, form);
+    vsnprintf(r->contents->why, sizeof r->contents->why, form, values);
+    va_end(values);
+    return refuse(r, refusal, r->start);
+}
+
+/* One number: 1 where the sheet ends, 2 where its form is wrong. */
+static bool take(struct reader *r)
+{
+    uint64_t value = 0;
+    r->start = r->at;
+    for (unsigned i = 0; i < 5; i++) {
+        uint8_t byte;
+        if (r->start + i >= r->sheet->len)
+            return refuse(r, RP_SHEET_ENDS, r->sheet->len);
+        byte = r->sheet->at[r->start + i];
+        if ((i == 4 && byte > 15) || (i > 0 && byte == 0))
+            return refuse(r, RP_BAD_NUMBER, r->start);
+        value |= (uint64_t)(byte & 127) << 7 * i;
+        if (byte < 128) {
+            r->at = r->start + i + 1;
+            r->value = (uint32_t)value;
+            return true;
+        }
+    }
+    return refuse(r, RP_BAD_NUMBER, r->start);
+}
+
+/* One number of a range. */
+static bool take_within(struct reader *r, uint32_t least, uint32_t most)
+{
+    if (!take(r))
+        return false;
+    if (r->value >= least && r->value <= most)
+        return true;
+    if (least == most)
+        return refuse_because(r, RP_OUT_OF_RANGE, "it is %s, and has to be %s", grouped(r->value).text,
+            grouped(least).text);
+    return refuse_because(r, RP_OUT_OF_RANGE, "it is %s, and has to be %s to %s", grouped(r->value).text,
+        grouped(least).text, grouped(most).text);
+}
+
+/* One number of 0 to `most` that is above the one before it, if there is one. */
+static bool take_rising(struct reader *r, uint32_t most, bool first, uint32_t before)
+{
+    if (!take_within(r, 0, most))
+        return false;
+    if (first || r->value > before)
+        return true;
+    return refuse_because(r, RP_NOT_RISING, "it is %u, and the one before it is %u", (unsigned)r->value,
+        (unsigned)before);
+}
+
+/* ---- the three kinds ---- */
+
+static const char *kind_name(uint32_t kind)
+{
+    static const char *const NAMES[] = { "none", "settings", "read request", "plan" };
+    return kind <= KIND_PLAN ? NAMES[kind] : NAMES[0];
+}
+
+static const char *sheet_name(uint32_t kind)
+{
+    return kind == KIND_SETTINGS ? "a settings sheet" : kind == KIND_REQUEST ? "a read request" : "a plan";
+}
+
+/* Kind, unit and tenancy. */
+static bool read_head(struct reader *r)
+{
+    struct contents *c = r->contents;
+    next_is(r, "the kind");
+    if (!take(r))
+        return false;
+    if (r->value < KIND_SETTINGS || r->value > KIND_PLAN)
+        return refuse_because(r, RP_WRONG_KIND, "it is %s; settings are 1, a read request 2, a plan 3",
+            grouped(r->value).text);
+    if (r->expected->kind != 0 && r->value != r->expected->kind)
+        return refuse_because(r, RP_WRONG_KIND, "it is %u, %s", (unsigned)r->value, sheet_name(r->value));
+    c->kind = r->value;
+    put_line(r, "kind %u: %s", (unsigned)c->kind, kind_name(c->kind));
+    next_is(r, "the unit");
+    if (!take(r))
+        return false;
+    c->unit = r->value;
+    if (r->expected->unit != NULL && c->unit != *r->expected->unit)
+        return refuse_because(r, RP_WRONG_UNIT, "it is %u, not %u", (unsigned)c->unit,
+            (unsigned)*r->expected->unit);
+    put_line(r, "unit %u", (unsigned)c->unit);
+    next_is(r, "the tenancy");
+    if (!take(r))
+        return false;
+    c->tenancy = r->value;
+    if (c->tenancy == 0)
+        return refuse_because(r, RP_WRONG_TENANCY, "it is 0, and no tenancy is");
+    if (r->expected->tenancy != NULL && c->tenancy != *r->expected->tenancy)
+        return refuse_because(r, RP_WRONG_TENANCY, "it is %u, not %u", (unsigned)c->tenancy,
+            (unsigned)*r->expected->tenancy);
+    put_line(r, "tenancy %u", (unsigned)c->tenancy);
+    return true;
+}
+
+static bool read_settings(struct reader *r)
+{
+    struct contents *c = r->contents;
+    next_is(r, "the number of disks N");
+    if (!take_within(r, 1, RP_MOST_DISKS))
+        return false;
+    c->count = r->value;
+    put_line(r, "N: %u disk%s", (unsigned)c->count, c->count == 1 ? "" : "s");
+    for (uint32_t d = 0; d < c->count; d++) {
+        struct row *row = &c->rows[d];
+        next_is(r, "the cost of disk %u", (unsigned)d);
+        if (!take_within(r, 1, RP_MOST_COST))
+            return false;
+        row->cost = r->value;
+        next_is(r, "the load of disk %u", (unsigned)d);
+        if (!take_within(r, 0, RP_MOST_LOAD))
+            return false;
+        row->load = r->value;
+        next_is(r, "the delay of disk %u", (unsigned)d);
+        if (!take_within(r, 0, RP_MOST_DELAY))
+            return false;
+        row->delay = r->value;
+        put_line(r, "disk %u: cost %s, load %s, delay %s", (unsigned)d, grouped(row->cost).text,
+            grouped(row->load).text, grouped(row->delay).text);
+    }
+    return true;
+}
+
+/* One block of a request: k and its disks. */
+static bool read_block(struct reader *r, uint32_t block)
+{
+    char disks[8 * RP_MOST_COPIES] = "";
+    uint32_t copies, before = 0;
+    next_is(r, "the copy count k of block %u", (unsigned)block);
+    if (!take(r))
+        return false;
+    if (r->value == 0)
+        return refuse(r, RP_NO_COPY, r->start);
+    if (r->value > RP_MOST_COPIES)
+        return refuse_because(r, RP_OUT_OF_RANGE, "it is %s, and has to be 1 to %d", grouped(r->value).text,
+            RP_MOST_COPIES);
+    copies = r->value;
+    for (uint32_t i = 0; i < copies; i++) {
+        next_is(r, "disk %u of %u of block %u", (unsigned)i + 1, (unsigned)copies, (unsigned)block);
+        if (!take_rising(r, r->expected->disks - 1, i == 0, before))
+            return false;
+        before = r->value;
+        r->contents->copies[block] |= (uint64_t)1 << before;
+        snprintf(disks + strlen(disks), sizeof disks - strlen(disks), " %u", (unsigned)before);
+    }
+    put_line(r, "block %u: %u cop%s, disk%s%s", (unsigned)block, (unsigned)copies, copies == 1 ? "y" : "ies",
+        copies == 1 ? "" : "s", disks);
+    return true;
+}
+
+static bool read_request(struct reader *r)
+{
+    struct contents *c = r->contents;
+    next_is(r, "the number of blocks Q");
+    if (!take_within(r, 0, RP_MOST_BLOCKS))
+        return false;
+    c->count = r->value;
+    put_line(r, "Q: %u block%s", (unsigned)c->count, c->count == 1 ? "" : "s");
+    for (uint32_t b = 0; b < c->count; b++)
+        if (!read_block(r, b))
+            return false;
+    return true;
+}
+
+/* Numbers that are shown several a line. */
+enum { A_LINE = 8, WORDS_LENGTH = 6 * A_LINE + 1 };
+
+/* The disk of each block. */
+static bool read_disks(struct reader *r, uint32_t blocks)
+{
+    char disks[WORDS_LENGTH] = "";
+    uint32_t first = 0;
+    for (uint32_t b = 0; b < blocks; b++) {
+        next_is(r, "the disk of block %u", (unsigned)b);
+        if (!take_within(r, 0, RP_MOST_DISKS - 1))
+            return false;
+        snprintf(disks + strlen(disks), sizeof disks - strlen(disks), " %u", (unsigned)r->value);
+        if (b + 1 < blocks && b + 1 - first < A_LINE)
+            continue;
+        if (first == b)
+            put_line(r, "block %u: disk%s", (unsigned)b, disks);
+        else
+            put_line(r, "blocks %u-%u: disks%s", (unsigned)first, (unsigned)b, disks);
+        disks[0] = '\0';
+        first = b + 1;
+    }
+    return true;
+}
+
+/* The short set. */
+static bool read_set(struct reader *r, uint32_t size, uint32_t blocks)
+{
+    char set[WORDS_LENGTH] = "";
+    uint32_t before = 0;
+    for (uint32_t i = 0; i < size; i++) {
+        next_is(r, "block %u of %u of the short set", (unsigned)i + 1, (unsigned)size);
+        if (!take_rising(r, blocks - 1, i == 0, before))
+            return false;
+        before = r->value;
+        snprintf(set + strlen(set), sizeof set - strlen(set), " %u", (unsigned)before);
+        if (i + 1 < size && (i + 1) % A_LINE != 0)
+            continue;
+        put_line(r, "of the short set:%s", set);
+        set[0] = '\0';
+    }
+    return true;
+}
+
+static bool read_plan(struct reader *r)
+{
+    struct contents *c = r->contents;
+    next_is(r, "the number of blocks Q");
+    if (!take_within(r, 0, RP_MOST_BLOCKS))
+        return false;
+    c->count = r->value;
+    put_line(r, "Q: %u block%s", (unsigned)c->count, c->count == 1 ? "" : "s");
+    next_is(r, "the time R");
+    if (!take_within(r, c->count > 0, c->count > 0 ? RP_MOST_TIME : 0))
+        return false;
+    c->time = r->value;
+    put_line(r, "R: %s microseconds", grouped(c->time).text);
+    if (!read_disks(r, c->count))
+        return false;
+    next_is(r, "the size m of the short set");
+    if (!take_within(r, c->count > 0, c->count))
+        return false;
+    c->short_size = r->value;
+    put_line(r, "m: %u block%s in the short set", (unsigned)c->short_size, c->short_size == 1 ? "" : "s");
+    return read_set(r, c->short_size, c->count);
+}
+
+static bool read_all(struct reader *r)
+{
+    static bool (*const READ[])(struct reader *) = {
+        [KIND_SETTINGS] = read_settings, [KIND_REQUEST] = read_request, [KIND_PLAN] = read_plan
+    };
+    if (!read_head(r) || !READ[r->contents->kind](r))
+        return false;
+    next_is(r, "the end of the sheet");
+    return r->at == r->sheet->len || refuse(r, RP_BYTES_FOLLOW, r->at);
+}
+
+/* Adds what is left from the line that was not finished on. */
+static void put_rest(struct reader *r)
+{
+    enum { MOST_SHOWN = 12 };
+    size_t end = r->sheet->len, place = r->contents->place;
+    if (r->text == NULL)
+        return;
+    if (r->line < place) {
+        r->at = place;
+        put_line(r, "read so far");
+    }
+    r->at = end - place > MOST_SHOWN ? place + MOST_SHOWN : end;
+    put_line(r, "%s<- refused %u: %s", r->at < end ? ".. " : "", r->contents->refusal, r->contents->what);
+}
+
+void contents_read(const struct bytes *sheet, const struct expected *expected, struct contents *contents,
+    struct bytes *text)
+{
+    struct reader r = { sheet, expected, contents, text, 0, 0, 0, 0 };
+    memset(contents, 0, sizeof *contents);
+    if (!read_all(&r))
+        put_rest(&r);
+}
+
+bool contents_is_plan_of(const struct bytes *sheet, uint32_t unit, uint32_t tenancy)
+{
+    struct contents contents = { .kind = 0 };
+    const struct expected expected = { &unit, &tenancy, RP_MOST_DISKS, KIND_PLAN };
+    struct reader r = { sheet, &expected, &contents, NULL, 0, 0, 0, 0 };
+    return read_head(&r);
+}
+
+void contents_where(const struct contents *contents, struct bytes *where)
+{
+    if (contents->refusal == RP_SHEET_ENDS && contents->place == 0)
+        bytes_addf(where, "there are no bytes in it");
+    else if (contents->refusal == RP_SHEET_ENDS)
+        bytes_addf(where, "byte %zu, where it ends: %s is due", contents->place, contents->what);
+    else
+        bytes_addf(where, "byte %zu: %s%s%s", contents->place, contents->what,
+            contents->why[0] == '\0' ? "" : ": ", contents->why);
+}
+
+/* ---- sheets in the place of tables and lists ---- */
+
+bool contents_begin(const struct bytes *bytes)
+{
+    return bytes->len > 0 && bytes->at[0] >= KIND_SETTINGS && bytes->at[0] <= KIND_PLAN;
+}
+
+static bool refused(const struct contents *contents, const char *name)
+{
+    struct bytes where = bytes_new();
+    if (contents->refusal != RP_ACCEPTED) {
+        bytes_addf(&where, "%s: ", name);
+        contents_where(contents, &where);
+        say_refused(contents->refusal, bytes_text(&where), remedy_here(contents->refusal));
+    }
+    bytes_free(&where);
+    return contents->refusal != RP_ACCEPTED;
+}
+
+bool contents_table(const struct bytes *sheet, const char *name, struct expected expected, struct table *table)
+{
+    static struct contents contents;
+    struct bytes rows = bytes_new();
+    expected.kind = KIND_SETTINGS;
+    contents_read(sheet, &expected, &contents, NULL);
+    if (refused(&contents, name)) {
+        bytes_free(&rows);
+        return false;
+    }
+    bytes_add(&rows, contents.rows, contents.count * sizeof contents.rows[0]);
+    *table = (struct table){ name, (struct row *)(void *)rows.at, contents.count };
+    return true;
+}
+
+bool contents_blocks(const struct bytes *sheet, const char *name, struct expected expected, struct blocks *blocks)
+{
+    static struct contents contents;
+    struct bytes list = bytes_new();
+    expected.kind = KIND_REQUEST;
+    contents_read(sheet, &expected, &contents, NULL);
+    if (refused(&contents, name)) {
+        bytes_free(&list);
+        return false;
+    }
+    for (uint32_t b = 0; b < contents.count; b++)
+        bytes_add(&list, &(struct block){ contents.copies[b], 0 }, sizeof(struct block));
+    *blocks = (struct blocks){ name, (struct block *)(void *)list.at, contents.count };
+    return true;
+}
+
+/* ---- the library's word ---- */
+
+/* Whether a writer gave the bytes of the sheet. */
+static bool same(uint64_t answer, const uint8_t *written, const struct bytes *sheet)
+{
+    return rp_refusal(answer) == RP_ACCEPTED && rp_length(answer) == sheet->len
+        && memcmp(written, sheet->at, sheet->len) == 0;
+}
+
+static bool library_writes_settings(const struct bytes *sheet, const struct contents *c)
+{
+    uint8_t lists[3][4 * RP_MOST_DISKS], written[RP_LONGEST_SETTINGS];
+    size_t len = 4 * c->count;
+    for (uint32_t d = 0; d < c->count; d++) {
+        rp_put32(lists[0], d, c->rows[d].cost);
+        rp_put32(lists[1], d, c->rows[d].load);
+        rp_put32(lists[2], d, c->rows[d].delay);
+    }
+    return same(rp_write_settings(c->unit, c->tenancy, lists[0], len, lists[1], len, lists[2], len, written,
+        sizeof written), written, sheet);
+}
+
+static bool library_writes_request(const struct bytes *sheet, const struct contents *c, uint32_t disks)
+{
+    static uint8_t copies[8 * RP_MOST_BLOCKS], written[RP_LONGEST_REQUEST];
+    for (uint32_t b = 0; b < c->count; b++)
+        rp_put64(copies, b, c->copies[b]);
+    return same(rp_write_request(c->unit, c->tenancy, disks, copies, 8 * c->count, written, sizeof written),
+        written, sheet);
+}
+
+static unsigned library_reads_plan(const struct bytes *sheet, const struct contents *c,
+    const struct expected *expected)
+{
+    uint8_t disks[RP_MOST_BLOCKS], set[2 * RP_MOST_BLOCKS];
+    return rp_refusal(rp_read_plan(expected->unit != NULL ? *expected->unit : c->unit,
+        expected->tenancy != NULL ? *expected->tenancy : c->tenancy, sheet->at, sheet->len, disks, sizeof disks,
+        set, sizeof set));
+}
+
+/* Whether the library says the same of a sheet. It reads plans, and writes the other two. */
+static bool library_agrees(const struct bytes *sheet, const struct contents *c, const struct expected *expected)
+{
+    if (c->kind == KIND_PLAN)
+        return library_reads_plan(sheet, c, expected) == c->refusal;
+    if (c->refusal != RP_ACCEPTED)
+        return true;
+    return c->kind == KIND_SETTINGS ? library_writes_settings(sheet, c)
+        : library_writes_request(sheet, c, expected->disks);
+}
+
+int contents_show(const struct bytes *sheet, const struct expected *expected, const char *title)
+{
+    static struct contents contents;
+    struct bytes text = bytes_new(), where = bytes_new();
+    bool good;
+    if (title != NULL)
+        bytes_addf(&text, "%s\n", title);
+    bytes_addf(&text, " byte  bytes                       field\n");
+    contents_read(sheet, expected, &contents, &text);
+    if (contents.refusal == RP_ACCEPTED)
+        bytes_addf(&text, "%5zu  %-28s%s\n", sheet->len, "", "the end: a whole sheet");
+    good = output_write(NULL, text.at, text.len);
+    if (good && contents.refusal != RP_ACCEPTED) {
+        contents_where(&contents, &where);
+        say_refused(contents.refusal, bytes_text(&where), contents.refusal == RP_WRONG_KIND
+            ? "these are not a sheet's bytes, or one of a newer version" : remedy_here(contents.refusal));
+        good = false;
+    }
+    if (!library_agrees(sheet, &contents, expected)) {
+        say("the library says otherwise of this sheet: tell us, with the sheet");
+        good = false;
+    }
+    bytes_free(&text);
+    bytes_free(&where);
+    return good ? STATUS_DONE : STATUS_BAD;
+}

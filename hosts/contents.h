@@ -1,0 +1,66 @@
+/*
+ * What a sheet says, field by field: any of the three kinds, read left to right as document 01 has it, to the first
+ * refusal and its place. The library has the last word: whatever is read here is held against it.
+ */
+#ifndef CONTENTS_H
+#define CONTENTS_H
+
+#include <stdbool.h>
+#include <stddef.h>
+#include <stdint.h>
+
+#include "blocks.h"
+#include "bytes.h"
+#include "rippleplank.h"
+#include "table.h"
+
+enum { KIND_SETTINGS = 1, KIND_REQUEST = 2, KIND_PLAN = 3 };
+
+/* What is expected of a sheet; null for anything. */
+struct expected {
+    const uint32_t *unit;
+    const uint32_t *tenancy;
+    uint32_t disks;         /* N for a request, 64 where it is not known */
+    uint32_t kind;          /* 0 for any of the three */
+};
+extern const struct expected ANYTHING;
+
+struct contents {
+    uint32_t kind;          /* 0 where it is none of the three */
+    uint32_t unit;
+    uint32_t tenancy;
+    uint32_t count;         /* of disks or blocks */
+    uint32_t time;          /* a plan's R */
+    uint32_t short_size;
+    struct row rows[RP_MOST_DISKS];
+    uint64_t copies[RP_MOST_BLOCKS];
+    unsigned refusal;       /* 0 where the sheet is accepted */
+    size_t place;           /* of the number refused; the sheet's length for 1 */
+    char what[64];          /* what was to be read there */
+    char why[128];          /* what is wrong with it, or empty */
+};
+
+/* Reads a sheet; the fields are added to `text` line by line, with their places, unless it is null. */
+void contents_read(const struct bytes *sheet, const struct expected *expected, struct contents *contents,
+    struct bytes *text);
+
+/* Whether the first three fields are those of a plan of this unit and tenancy. */
+bool contents_is_plan_of(const struct bytes *sheet, uint32_t unit, uint32_t tenancy);
+
+/* Where a sheet is refused, in words. */
+void contents_where(const struct contents *contents, struct bytes *where);
+
+/* Whether bytes begin with the kind of a sheet, as no text does. */
+bool contents_begin(const struct bytes *bytes);
+
+/*
+ * The table of a settings sheet, and the blocks of a read request; or says why there are none. What is expected of the
+ * kind is known here.
+ */
+bool contents_table(const struct bytes *sheet, const char *name, struct expected expected, struct table *table);
+bool contents_blocks(const struct bytes *sheet, const char *name, struct expected expected, struct blocks *blocks);
+
+/* Shows a sheet on standard output, field by field; says where it is refused, if it is. `title` may be null. */
+int contents_show(const struct bytes *sheet, const struct expected *expected, const char *title);
+
+#endif

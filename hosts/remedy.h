@@ -1,0 +1,16 @@
+/* What to do about a refusal: one line for each number in remedy.c. */
+#ifndef REMEDY_H
+#define REMEDY_H
+
+#include <stdbool.h>
+
+/* Of a sheet that this program read. */
+const char *remedy_here(unsigned refusal);
+
+/* Of a call that the shelf refused; `rented` where its lines show that the unit was rented then. */
+const char *remedy_at_shelf(unsigned refusal, bool rented);
+
+/* Why the shelf stopped: its stream of calls is damaged. */
+const char *why_stopped(unsigned number);
+
+#endif
