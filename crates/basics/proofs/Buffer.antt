@@ -67,7 +67,13 @@ module _ {A : Type 0} where
   unfolding paste
   paste-length out at xs h =
       length-append (take at out) (over xs (drop at out))
-      ∙ omega (arith, length-take-le at out (omega arith), over-length xs (drop at out) (omega (arith, length-drop at out)), length-drop at out)
+      ∙ omega (
+        arith,
+        length-take-le at out (omega arith),
+        over-length xs (drop at out)
+            (omega (arith, length-drop at out)),
+        length-drop at out,
+      )
 
   pub paste-paste : (out : List A) (at : ℕ) (xs ys : List A) → at + length xs ≤ length out
       → paste (paste out at xs) (at + length xs) ys ≡ paste out at (xs ++ ys)
@@ -75,7 +81,8 @@ module _ {A : Type 0} where
   paste-paste out at xs ys h =
       let front : List A = take at out in
       let back : List A = drop (length xs) (drop at out) in
-      let n : length (front ++ xs) ≡ at + length xs = length-append front xs ∙ ap (λ (k : ℕ). k + length xs) (length-take-le at out (omega arith)) in
+      let n : length (front ++ xs) ≡ at + length xs = length-append front xs
+      ∙ ap (λ (k : ℕ). k + length xs) (length-take-le at out (omega arith)) in
       let e : front ++ (xs ++ back) ≡ (front ++ xs) ++ back = sym (append-assoc front xs back) in
       ap (λ (z : List A). take (at + length xs) z ++ over ys (drop (at + length xs) z)) e
       ∙ ap (λ (z : List A). z ++ over ys (drop (at + length xs) ((front ++ xs) ++ back))) (take-at (front ++ xs) back (at + length xs) n)

@@ -1,11 +1,11 @@
 -- Laws of sums, counts, tests and greatest values over the numbers below a bound.
 --     bit-true, bit-false, bit-le, bit-mono, bit-is     a counted test
---     gate-true, gate-false, gate-le, gate-mono         a gated number
+--     gate-true, gate-false, gate-le, gate-mono, gate-some, gate-none, gate-most     a gated number
 --     sum-ext, sum-le, sum-zero, sum-add, sum-swap      termwise equal, termwise at most, nothing, two sums, a double sum
---     sum-next, sum-term, sum-point, sum-tight          one term more; a term is at most the sum; two sums whose terms differ at one place at most;
---                                                       termwise at most, and the sum not less: termwise equal
+--     sum-next, sum-term, sum-point     one term more; a term is at most the sum; two sums whose terms differ at one place at most
+--     sum-tight                         termwise at most, and the sum not less: termwise equal
 --     count-le, count-ext, count-point, count-tight, count-next     the same for counts
---     count-less, count-front, count-enough             more where one number more passes; the first number, then the rest; numbers that fail
+--     count-less, count-front, count-enough     more where one number more passes; the first, then the rest; numbers that fail
 --     count-most, count-none, count-all, count-here, count-some     a count's bounds
 --     any-here, any-some, any-none, any-mono, any-ext, any-front    a test over the numbers below a bound
 --     latest-term, latest-le, latest-ext                the greatest value against a bound
@@ -65,6 +65,24 @@ pub gate-mono : (a b : Bool) (x y : ℕ) → (a ≡ true → b ≡ true) → x �
 unfolding gate
 gate-mono true b x y f h = omega (arith, gate-true b y (f refl))
 gate-mono false b x y f h = omega arith
+
+-- a gated number that is not 0 is the number
+pub gate-some : (b : Bool) (x : ℕ) → (gate b x ≡ 0 → ⊥) → (b ≡ true) × (gate b x ≡ x)
+unfolding gate
+gate-some true x z = (refl, refl)
+gate-some false x z = absurd (z refl)
+
+-- of a number that is not 0, it is 0 where the test fails
+pub gate-none : (b : Bool) (x : ℕ) → 0 < x → gate b x ≡ 0 → b ≡ false
+unfolding gate
+gate-none true x h z = absurd (omega arith)
+gate-none false x h z = refl
+
+-- a bound of the number where the test passes is one of the gated number
+pub gate-most : (b : Bool) (x m : ℕ) → (b ≡ true → x ≤ m) → gate b x ≤ m
+unfolding gate
+gate-most true x m h = h refl
+gate-most false x m h = omega arith
 
 -- ---- sums
 

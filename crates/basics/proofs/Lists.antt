@@ -1,11 +1,12 @@
 -- Laws of lists.
 --     replicate-at     a list of one value holds it everywhere
 --     all-at, all-by, rises-by     each value by its place; numbers that rise by their places
---     listed-at, listed-some, listed-take     what stands at a place is listed, and the other way round; a part of a list
+--     listed-at, listed-some, listed-not, listed-take     what stands at a place is listed, and the other way round; a part of a list
+--     listed-one, one-listed     a list of one number
 --     rising-same      two rising lists of the same numbers are the same
 use Prim.Native.Nat.{ℕ, zero, suc, _+_, _≤_, _<_}
 use mathlib.Core.Path.{_≡_, refl, sym, ap, _∙_, subst}
-use mathlib.Core.Bool.{Bool, true, false, _||_}
+use mathlib.Core.Bool.{Bool, true, false, _||_, or-false}
 use mathlib.Core.Logic.{⊎-elim}
 use mathlib.Core.List.{List, [], _∷_}
 use native.Mathlib.Omega.{arith}
@@ -15,7 +16,7 @@ use lib.ListN.{length, getD, take, replicate}
 use lib.Seq.{getD-take, length-take-le}
 use Rattle.basics.specs.Count.{any}
 use Rattle.basics.specs.Lists.{All, Rises, listed}
-use Rattle.basics.proofs.Tests.{by-cases, below-or, differ, or-elim, or-right}
+use Rattle.basics.proofs.Tests.{by-cases, below-or, differ, not-here, or-elim, or-right}
 use Rattle.basics.proofs.Count.{any-ext, any-front}
 
 pub replicate-at : {A : Type 0} (a : A) (n i : ℕ) → getD (replicate n a) i a ≡ a
@@ -76,6 +77,17 @@ listed-some (x ∷ xs) b e =
     (λ t. let s = listed-some xs b t in (suc (s .0), omega (arith, s .1), s .2))
     (or-elim (eqb x b) (listed xs b) e)
 
+pub listed-not : (xs : List ℕ) (b : ℕ) → ((i : ℕ) → i < length xs → getD xs i 0 ≡ b → ⊥) → listed xs b ≡ false
+listed-not xs b h = not-here (listed xs b) (λ t. let s = listed-some xs b t in h (s .0) (s .1) (s .2))
+
+-- a list of one number
+pub listed-one : (x b : ℕ) → listed (x ∷ []) b ≡ true → b ≡ x
+unfolding listed
+listed-one x b e = sym (eqb-true x b (sym (or-false (eqb x b)) ∙ e))
+
+pub one-listed : (x : ℕ) → listed (x ∷ []) x ≡ true
+one-listed x = listed-first x []
+
 -- by places
 listed-any : (xs : List ℕ) (b : ℕ) → any (length xs) (λ i. eqb (getD xs i 0) b) ≡ listed xs b
 unfolding listed any
@@ -107,7 +119,8 @@ Same high xs ys = (b : ℕ) → b ≤ high → listed xs b ≡ listed ys b
 first-late : (high x y : ℕ) (xs ys : List ℕ) → x ≤ high → Rises (y + 1) high ys → Same high (x ∷ xs) (y ∷ ys) → y ≤ x
 first-late high x y xs ys k q h =
     below-or x y
-    (λ l. absurd (differ (sym (h x k) ∙ listed-first x xs) (listed-other y ys x (λ e. omega arith) ∙ listed-below (y + 1) high ys q x (omega arith))))
+    (λ l. absurd (differ (sym (h x k) ∙ listed-first x xs) (listed-other y ys x (λ e. omega arith)
+    ∙ listed-below (y + 1) high ys q x (omega arith))))
     (λ l. l)
 
 -- behind a first number that both have

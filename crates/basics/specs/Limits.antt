@@ -3,6 +3,7 @@
 --     costMost, loadMost, delayMost            of one disk
 --     startMost, timeMost                      when a disk starts; the time of a plan
 --     settingsMost, requestMost, planMost      the longest sheets, in bytes
+--     placesMost, nodesMost                    the disks and none; the blocks and the places
 --     refusalsMost                             the greatest number of a refusal
 use Prim.Native.Nat.{ℕ}
 
@@ -38,6 +39,12 @@ requestMost = 9229
 
 abbrev pub planMost : ℕ
 planMost = 2964
+
+abbrev pub placesMost : ℕ
+placesMost = 65
+
+abbrev pub nodesMost : ℕ
+nodesMost = 1089
 
 abbrev pub refusalsMost : ℕ
 refusalsMost = 14

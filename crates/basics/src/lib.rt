@@ -29,6 +29,9 @@ pub const PLAN_MOST: usize = 2964;
 // Places for blocks: the disks, and none.
 pub const PLACES: usize = DISKS + 1;
 
+// What stands in rings: the blocks, and for each place where its ring begins.
+pub const NODES: usize = BLOCKS + PLACES;
+
 // Copies of each block as a number; the place of each block; a number for each disk, and for each place.
 pub type Masks = [u64; BLOCKS];
 
@@ -37,3 +40,10 @@ pub type Seats = [u8; BLOCKS];
 pub type Capacities = [u32; DISKS];
 
 pub type Counts = [u32; PLACES];
+
+// The node that a node leads to; the disks that the blocks at each place can bring; the blocks of a search, step by step.
+pub type Links = [u16; NODES];
+
+pub type Reaches = [u64; PLACES];
+
+pub type Steps = [u16; PLACES];

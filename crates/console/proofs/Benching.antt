@@ -7,6 +7,7 @@ use native.Mathlib.Omega.{arith}
 use borrow.Author.Tests.{le-leb, ltb-true}
 use lib.Dec.{ltb}
 use lib.ListN.{length, take, drop}
+use Rattle.basics.specs.Limits.{blocksMost, planMost}
 use Rattle.basics.specs.Choice.{pick}
 use Rattle.basics.proofs.Choice.{pick-true, pick-elim}
 use Rattle.basics.proofs.Tests.{and-both}
@@ -14,7 +15,6 @@ use Rattle.field.specs.declared.Refusal.{Refusal}
 use Rattle.field.specs.declared.Written.the-variants.{Length, Refused as NotWritten}
 use Rattle.field.specs.Field.{number, end}
 use Rattle.field.specs.Refusal.{numberOf}
-use Rattle.field.specs.Send.{toldWritten}
 use Rattle.field.specs.Sheet.{Out, got, refused, pure}
 use Rattle.field.proofs.Readers.{end-here, end-extra}
 use Rattle.field.proofs.Sheet.{next, then, stops, halts}
@@ -28,26 +28,26 @@ use Rattle.plan.specs.Plan.{Plan, planSheet}
 use Rattle.plan.specs.Range.{InRange}
 use Rattle.plan.specs.Receive.{roomFor, settle as settledOf, heads, Received}
 use Rattle.plan.specs.Told.{toldPlan}
-use Rattle.plan.proofs.Longest.{longest-fits}
+use Rattle.plan.proofs.Longest.{longest}
 use Rattle.basics.proofs.Buffer.{over-within, over-front}
-use Rattle.plan.proofs.Receiving.{Took, took}
+use Rattle.plan.proofs.Accepted.{Took, took}
 use Rattle.plan.proofs.RoundTrip.{sheet-read, same-plan}
-use Rattle.plan.proofs.Sending.{sent-all}
+use Rattle.planner.proofs.Answers.{Unsent, denied, longer, plans-range, answered-sheet, answered-none}
+use Rattle.planner.proofs.Plans.{plans-unique}
 use Rattle.unit.specs.declared.Answer.{Answer as Verdicts}
 use Rattle.unit.specs.declared.Answer.the-variants.{Accepted as Taken, Refused as Denied}
 use Rattle.unit.specs.declared.Done.{Done}
-use Rattle.unit.specs.declared.Planned.{Planned}
+use Rattle.unit.specs.declared.Requested.{Requested}
 use Rattle.unit.specs.declared.Unit.{Unit}
 use Rattle.unit.specs.Life.{accepted, Outcome, takes, refuses, rent, settled, set}
-use Rattle.unit.specs.Request.{Sheeted, Replied, Answered}
+use Rattle.unit.specs.Request.{askedOf, Replied}
 use Rattle.unit.specs.Sound.{Sound}
 use Rattle.unit.specs.Told.{told, toldAnswer}
 use Rattle.unit.specs.Unit.{newUnit, tenancyOf, tenanted, withTable}
-use Rattle.unit.proofs.Plans.{plan-for-unique}
 use Rattle.unit.proofs.Sound.{sound-new, sound-rent, sound-set}
-use Rattle.unit.proofs.Within.{answered-as}
+use Rattle.unit.proofs.Replies.{replied-as}
 use Rattle.line.specs.declared.Word.the-variants.{Refused}
-use Rattle.console.specs.Bench.{Ready, judge, accept, close, settle, hire, benchInput, Replies, Asks, Line, Tells, Let}
+use Rattle.console.specs.Bench.{Ready, judge, accept, close, settle, hire, benchInput, answerLine, Asks, Line, Tells, Rented}
 use Rattle.stream.specs.Frame.{sheet, part}
 use Rattle.line.specs.Line.{spoken, planLine}
 use Rattle.line.specs.Printed.{Printed}
@@ -78,21 +78,21 @@ outcome-verdict d h q = ap (λ (x : Outcome). x .verdict) (sym h) ∙ ap toldAns
 -- ---- a rented unit
 
 -- an accepted rent leaves a tenancy
-Leaves : Outcome → Type 0
-Leaves o = o .verdict ≡ accepted → 0 < tenancyOf (o .unit)
+RentedBy : Outcome → Type 0
+RentedBy o = o .verdict ≡ accepted → 0 < tenancyOf (o .unit)
 
-rent-leaves : (u : Unit) (t : ℕ) → Leaves (rent u t)
-unfolding Leaves rent takes refuses tenanted tenancyOf pick
-rent-leaves u t =
-    pick-elim Leaves (u .rented) _ _
+rented-by : (u : Unit) (t : ℕ) → RentedBy (rent u t)
+unfolding RentedBy rent takes refuses tenanted tenancyOf pick
+rented-by u t =
+    pick-elim RentedBy (u .rented) _ _
     (λ _ q. absurd (let z : _≡_ {A = ℕ} 0 1 = cc in omega arith))
-    (λ _. pick-elim Leaves (ltb (u .last) t) _ _
+    (λ _. pick-elim RentedBy (ltb (u .last) t) _ _
     (λ l q. omega (arith, ltb-true (u .last) t l))
     (λ _ q. absurd (let z : _≡_ {A = ℕ} 0 1 = cc in omega arith)))
 
 -- settings leave the tenancy as it was
 settled-tenancy : (u : Unit) (o : Out Table) → tenancyOf (settled u o .unit) ≡ tenancyOf u
-unfolding settled takes refuses withTable tenancyOf
+unfolding settled takes refuses tenancyOf
 settled-tenancy u (got t e) = refl
 settled-tenancy u (refused n) = refl
 
@@ -100,17 +100,17 @@ set-tenancy : (u : Unit) (s : List ℕ) → tenancyOf (set u s .unit) ≡ tenanc
 unfolding set
 set-tenancy u s = settled-tenancy u (settingsSheet (u .number) (tenancyOf u) s 0)
 
-pub let-rent : (n t : ℕ) (d : Done) → told d ≡ rent (newUnit n) t → d .answer ≡ Taken → Let (d .unit)
-unfolding Leaves
-let-rent n t d h q =
+pub rented-new : (n t : ℕ) (d : Done) → told d ≡ rent (newUnit n) t → d .answer ≡ Taken → Rented (d .unit)
+unfolding RentedBy
+rented-new n t d h q =
     let e : rent (newUnit n) t .unit ≡ d .unit = outcome-unit d h in
     record {
       sound = subst Sound e (sound-rent (newUnit n) (sound-new n) t);
-      tenancy = subst (λ (u : Unit). 0 < tenancyOf u) e (rent-leaves (newUnit n) t (outcome-verdict d h q));
+      tenancy = subst (λ (u : Unit). 0 < tenancyOf u) e (rented-by (newUnit n) t (outcome-verdict d h q));
     }
 
-pub let-set : {u : Unit} (s : List ℕ) (d : Done) → Let u → told d ≡ set u s → Let (d .unit)
-let-set {u} s d w h =
+pub rented-set : {u : Unit} (s : List ℕ) (d : Done) → Rented u → told d ≡ set u s → Rented (d .unit)
+rented-set {u} s d w h =
     let e : set u s .unit ≡ d .unit = outcome-unit d h in
     record {
       sound = subst Sound e (sound-set u (w .sound) s);
@@ -120,7 +120,8 @@ let-set {u} s d w h =
 -- ---- each stage of the input
 
 -- a refusal's line
-pub tells-refused : {o : Out Ready} {out after : List ℕ} {n : ℕ} (e : Refusal) → o ≡ refused (numberOf e) → Printed (spoken (Refused (numberOf e))) out n after → Tells o out n after
+pub tells-refused : {o : Out Ready} {out after : List ℕ} {n : ℕ} (e : Refusal) → o ≡ refused (numberOf e)
+    → Printed (spoken (Refused (numberOf e))) out n after → Tells o out n after
 unfolding Line
 tells-refused e h p = record { text = spoken (Refused (numberOf e)); says = rw h refl; printed = p }
 
@@ -131,10 +132,12 @@ tells-same {o} {q} {out} {after} {n} e w = subst (λ (x : Out Ready). Tells x ou
 module _ (u : Unit) (s : List ℕ) (at : ℕ) where
   module _ (from to : ℕ) (h : sheet s at ≡ got (part s from to) to) where
     -- the request
-    pub close-asks : {out after : List ℕ} {n : ℕ} → to ≡ length s → (text : List ℕ) × Asks u (part s from to) text × Printed text out n after → Tells (close u s at) out n after
+    pub close-asks : {out after : List ℕ} {n : ℕ} → to ≡ length s → (text : List ℕ) × Asks u (part s from to) text
+        × Printed text out n after → Tells (close u s at) out n after
     unfolding close pure Line
     close-asks q w =
-        let e : close u s at ≡ got (record { unit = u; request = part s from to }) to = next sheet _ s at h ∙ then end _ s to (end-here s to q) in
+        let e : close u s at ≡ got (record { unit = u; request = part s from to }) to = next sheet _ s at h
+        ∙ then end _ s to (end-here s to q) in
         tells-same e (record { text = w .0; says = w .1; printed = w .2 })
 
     -- input after the second sheet
@@ -184,7 +187,8 @@ input-no-unit s m h = stops number _ s 0 h
 -- ---- the plan sheet, read back
 
 -- what is known of an answer, where the answer is known
-pub received-as : {o : Out Plan} {n : ℕ} {disks short disks′ short′ : List ℕ} {a b : Answer} → Received o n disks short a disks′ short′ → a ≡ b → Received o n disks short b disks′ short′
+pub received-as : {o : Out Plan} {n : ℕ} {disks short disks′ short′ : List ℕ} {a b : Answer} → Received o n disks short a disks′ short′
+    → a ≡ b → Received o n disks short b disks′ short′
 received-as {o} {n} {disks} {short} {disks′} {short′} w q = subst (λ (x : Answer). Received o n disks short x disks′ short′) q w
 
 module _ (unit t : ℕ) (s disks short : List ℕ) where
@@ -200,71 +204,79 @@ module _ (unit t : ℕ) (s disks short : List ℕ) where
     back-short = omega (arith, back .size, ap length (back .short-left), over-within (back .plan .short) short)
 
     -- what was read is the plan
-    pub back-plan : unit < 2 ^ 32 → t < 2 ^ 32 → (p : Plan) → InRange p → 0 < t → s ≡ planBytes unit t p → record { time = h .time; disks = take (h .blocks) disks′; short = take (h .size) short′ } ≡ p
+    pub back-plan : unit < 2 ^ 32 → t < 2 ^ 32 → (p : Plan) → InRange p → 0 < t → s ≡ planBytes unit t p
+        → record { time = h .time; disks = take (h .blocks) disks′; short = take (h .size) short′ } ≡ p
     back-plan a b p r l q =
-        let x : planSheet unit t s 0 ≡ got p (length (planBytes unit t p)) = ap (λ (z : List ℕ). planSheet unit t z 0) q ∙ sheet-read unit t p a l b r in
+        let x : planSheet unit t s 0 ≡ got p (length (planBytes unit t p)) = ap (λ (z : List ℕ). planSheet unit t z 0) q
+        ∙ sheet-read unit t p a l b r in
         let y : got (back .plan) (length s) ≡ got p (length (planBytes unit t p)) = sym (back .says) ∙ x in
         let e : back .plan ≡ p = cc in
-        same-plan (h .time) (back .plan .time) (take (h .blocks) disks′) (back .plan .disks) (take (h .size) short′) (back .plan .short) (back .time)
+        same-plan (h .time) (back .plan .time) (take (h .blocks) disks′) (back .plan .disks) (take (h .size) short′)
+        (back .plan .short) (back .time)
         (ap (take (h .blocks)) (back .disks-left) ∙ over-front (back .plan .disks) disks (h .blocks) (sym (back .blocks)))
         (ap (take (h .size)) (back .short-left) ∙ over-front (back .plan .short) short (h .size) (sym (back .size)))
         ∙ e
 
   -- a plan sheet is never refused
-  pub back-never : (e : Refusal) (disks′ short′ : List ℕ) → Received (planSheet unit t s 0) (length s) disks short (NoPlan e) disks′ short′ → unit < 2 ^ 32 → t < 2 ^ 32 → length disks ≡ 1024 → length short ≡ 1024 → (p : Plan) → InRange p → 0 < t → s ≡ planBytes unit t p → ⊥
+  pub back-never : (e : Refusal) (disks′ short′ : List ℕ) → Received (planSheet unit t s 0) (length s) disks short (NoPlan e) disks′ short′
+      → unit < 2 ^ 32 → t < 2 ^ 32 → length disks ≡ blocksMost → length short ≡ blocksMost → (p : Plan) → InRange p → 0 < t
+      → s ≡ planBytes unit t p → ⊥
   unfolding toldPlan settledOf heads roomFor
   back-never e disks′ short′ w a b m n p r l q =
-      let x : planSheet unit t s 0 ≡ got p (length (planBytes unit t p)) = ap (λ (z : List ℕ). planSheet unit t z 0) q ∙ sheet-read unit t p a l b r in
-      let room : roomFor p disks short ≡ true = and-both _ _ (le-leb (length (p .disks)) (length disks) (omega (arith, r .few))) (le-leb (length (p .short)) (length short) (omega (arith, r .few, r .size-to))) in
-      let y : refused (numberOf e) ≡ heads (got p (length (planBytes unit t p))) = w .answer ∙ ap (λ (o : Out Plan). heads (settledOf o disks short)) x ∙ ap heads (pick-true _ _ room) in
+      let x : planSheet unit t s 0 ≡ got p (length (planBytes unit t p)) = ap (λ (z : List ℕ). planSheet unit t z 0) q
+      ∙ sheet-read unit t p a l b r in
+      let room : roomFor p disks short
+      ≡ true = and-both _ _ (le-leb (length (p .disks)) (length disks) (omega (arith, r .few)))
+      (le-leb (length (p .short)) (length short) (omega (arith, r .few, r .size-to))) in
+      let y : refused (numberOf e) ≡ heads (got p (length (planBytes unit t p))) = w .answer
+      ∙ ap (λ (o : Out Plan). heads (settledOf o disks short)) x ∙ ap heads (pick-true _ _ room) in
       let z : _≡_ {A = ℕ} 0 1 = cc in
       omega arith
 
 -- ---- the request's answer
 
-module _ (u : Unit) (out : List ℕ) where
-  module _ {buf buf′ : List ℕ} {m : ℕ} where
-    reply-shown : (o : Out (List ℕ)) (n : ℕ) (after : List ℕ) → Replied u o out (Length n) after → ((p : Plan) → InRange p → take n after ≡ planBytes (u .number) (tenancyOf u) p → Printed (planLine (u .number) (tenancyOf u) p) buf m buf′) → (text : List ℕ) × Replies u o text × Printed text buf m buf′
-    unfolding Replied Sheeted Replies toldWritten
-    reply-shown (refused k) n after w f = absurd (let a : got tt n ≡ refused k = w .0 in let z : _≡_ {A = ℕ} 0 1 = cc in omega arith)
-    reply-shown (got copies e) n after w f =
-        let x : (n ≡ length (planBytes (u .number) (tenancyOf u) (w .0))) × (take n after ≡ planBytes (u .number) (tenancyOf u) (w .0)) × (n ≤ length out) = sent-all (u .number) (tenancyOf u) (w .0) (w .1 .range) out n after (w .2) in
-        (planLine (u .number) (tenancyOf u) (w .0), (w .0, w .1, refl), f (w .0) (w .1 .range) (x .1))
+unsent : {u : Unit} {s out : List ℕ} {e : Refusal} → planMost ≤ length out → Unsent (u .number) (tenancyOf u) (askedOf u s) out e
+    → Asks u s (spoken (Refused (numberOf e)))
+unfolding answerLine
+unsent {e = e} room (denied w) = record { plan = refused (numberOf e); plans = w; says = refl }
+unsent {u} {s} room (longer p i w l q) = absurd (omega (arith, longest (u .number) (tenancyOf u) p (plans-range (askedOf u s) p i w)))
 
-    reply-refused : (o : Out (List ℕ)) (e : Refusal) (after : List ℕ) → 2964 ≤ length out → Replied u o out (NotWritten e) after → Printed (spoken (Refused (numberOf e))) buf m buf′ → (text : List ℕ) × Replies u o text × Printed text buf m buf′
-    unfolding Replied Sheeted Replies toldWritten
-    reply-refused (refused k) e after room w p =
-        let q : refused (numberOf e) ≡ refused k = w .0 in
-        let j : numberOf e ≡ k = cc in
-        (spoken (Refused (numberOf e)), ap (λ (i : ℕ). spoken (Refused i)) j, p)
-    reply-refused (got copies x) e after room w p =
-        let q : refused (numberOf e) ≡ got tt (length (planBytes (u .number) (tenancyOf u) (w .0))) = w .2 .answer ∙ longest-fits (u .number) (tenancyOf u) (w .0) out (w .1 .range) room in
-        absurd (let z : _≡_ {A = ℕ} 0 1 = cc in omega arith)
+module _ {u : Unit} {s out after : List ℕ} {buf buf′ : List ℕ} {m : ℕ} where
+  pub asks-shown : {r : Requested} {k n t : ℕ} → Replied u s out r after → r .answer ≡ Length n → 0 < tenancyOf u
+      → k ≡ u .number → t ≡ tenancyOf u
+      → ((p : Plan) → InRange p → 0 < t → take n after ≡ planBytes k t p → Printed (planLine k t p) buf m buf′)
+      → (text : List ℕ) × Asks u s text × Printed text buf m buf′
+  unfolding answerLine
+  asks-shown {r} {k} {n} {t} a q l i e f =
+      let w = answered-sheet (replied-as a q) in
+      let g : 0 < tenancyOf u → take n after ≡ planBytes (u .number) (tenancyOf u) (w .plan)
+      → Printed (planLine (u .number) (tenancyOf u) (w .plan)) buf m buf′ =
+      subst (λ (x : ℕ). 0 < tenancyOf u → take n after ≡ planBytes x (tenancyOf u) (w .plan)
+      → Printed (planLine x (tenancyOf u) (w .plan)) buf m buf′) i
+      (subst (λ (x : ℕ). 0 < x → take n after ≡ planBytes k x (w .plan) → Printed (planLine k x (w .plan)) buf m buf′) e
+      (f (w .plan) (w .range))) in (
+        planLine (u .number) (tenancyOf u) (w .plan),
+        record
+            { plan = got (w .plan) (w .end); plans = w .plans; says = refl },
+        g l (w .bytes),
+      )
 
-  module _ (s : List ℕ) (r : Planned) (after : List ℕ) (a : Answered u s out r after) where
-    module _ {buf buf′ : List ℕ} {m : ℕ} where
-      pub asks-shown : (n t : ℕ) → r .answer ≡ Length n → 0 < tenancyOf u → t ≡ tenancyOf u → ((p : Plan) → InRange p → 0 < t → take n after ≡ planBytes (u .number) t p → Printed (planLine (u .number) t p) buf m buf′) → (text : List ℕ) × Asks u s text × Printed text buf m buf′
-      unfolding Asks
-      asks-shown n t q l e f =
-          let g : (p : Plan) → InRange p → 0 < tenancyOf u → take n after ≡ planBytes (u .number) (tenancyOf u) p → Printed (planLine (u .number) (tenancyOf u) p) buf m buf′ = subst (λ (k : ℕ). (p : Plan) → InRange p → 0 < k → take n after ≡ planBytes (u .number) k p → Printed (planLine (u .number) k p) buf m buf′) e f in
-          reply-shown _ n after (answered-as u out s r after a (Length n) q) (λ p i j. g p i l j)
-
-      pub asks-refused : (e : Refusal) → r .answer ≡ NotWritten e → 2964 ≤ length out → Printed (spoken (Refused (numberOf e))) buf m buf′ → (text : List ℕ) × Asks u s text × Printed text buf m buf′
-      unfolding Asks
-      asks-refused e q room p = reply-refused _ e after room (answered-as u out s r after a (NotWritten e) q) p
+  pub asks-refused : {r : Requested} {e : Refusal} → Replied u s out r after → r .answer ≡ NotWritten e → planMost ≤ length out
+      → Printed (spoken (Refused (numberOf e))) buf m buf′ → (text : List ℕ) × Asks u s text × Printed text buf m buf′
+  asks-refused {r} {e} a q room p = (spoken (Refused (numberOf e)), unsent {u = u} room (answered-none (replied-as a q)), p)
 
 -- ---- there is no second answer
 
-replies-unique : (u : Unit) (o : Out (List ℕ)) (x y : List ℕ) → Replies u o x → Replies u o y → x ≡ y
-unfolding Replies
-replies-unique u (refused n) x y v w = v ∙ sym w
-replies-unique u (got copies e) x y v w = v .2 ∙ ap (planLine (u .number) (tenancyOf u)) (plan-for-unique (u .table) copies (v .0) (w .0) (v .1) (w .1)) ∙ sym (w .2)
+asks-unique : {u : Unit} {s x y : List ℕ} → Asks u s x → Asks u s y → x ≡ y
+asks-unique {u} {s} v w = v .says
+    ∙ ap (answerLine (u .number) (tenancyOf u)) (plans-unique (askedOf u s) (v .plans) (w .plans)) ∙ sym (w .says)
 
 line-unique : (o : Out Ready) (x y : List ℕ) → Line o x → Line o y → x ≡ y
-unfolding Line Asks
+unfolding Line
 line-unique (refused n) x y v w = v ∙ sym w
-line-unique (got r e) x y v w = replies-unique (r .unit) _ x y v w
+line-unique (got r e) x y v w = asks-unique v w
 
 pub bench-unique : (o : Out Ready) (out : List ℕ) (n m : ℕ) (x y : List ℕ) → Tells o out n x → Tells o out m y → (n ≡ m) × (x ≡ y)
 bench-unique o out n m x y v w =
-    printed-unique (w .text) out n m x y (subst (λ (z : List ℕ). Printed z out n x) (line-unique o (v .text) (w .text) (v .says) (w .says)) (v .printed)) (w .printed)
+    printed-unique (w .text) out n m x y
+    (subst (λ (z : List ℕ). Printed z out n x) (line-unique o (v .text) (w .text) (v .says) (w .says)) (v .printed)) (w .printed)

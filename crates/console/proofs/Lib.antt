@@ -1,1 +1,2 @@
 pub mod Benching
+pub mod Cut

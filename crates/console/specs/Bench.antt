@@ -2,25 +2,30 @@
 --     accept                 the unit that a call hands back, or its refusal; nothing is read
 --     benchInput             all of the input: unit and tenancy, and then
 --     hire, settle, close    the rent; the settings sheet; the request sheet and the end of the input
---     Replies, Line          the line of a request; the line of an input
+--     answerLine, Asks, Line the line of an answer; of a request; of an input
 --     Tells                  the promise: that line stands in the buffer
-use Prim.Native.Nat.{ℕ, _<_}
+use Prim.Native.Nat.{ℕ, _+_, _<_}
+use Rattle.basics.specs.Limits.{requestMost}
 use mathlib.Core.Path.{_≡_}
 use mathlib.Core.List.{List}
 use Rattle.field.specs.Field.{number, end}
 use Rattle.field.specs.Sheet.{Out, got, refused, Parser, _>>=_, _>>_, pure}
 use Rattle.plan.specs.Plan.{Plan}
-use Rattle.request.specs.Request.{requestSheet}
+use Rattle.planner.specs.Asked.{Plans}
 use Rattle.unit.specs.declared.Unit.{Unit}
 use Rattle.unit.specs.Life.{Verdict, accepted, Outcome, rent, set}
 use Rattle.unit.specs.Life.{refused as denied}
-use Rattle.unit.specs.Request.{PlanFor}
+use Rattle.unit.specs.Request.{askedOf}
 use Rattle.unit.specs.Sound.{Sound}
 use Rattle.unit.specs.Unit.{newUnit, tenancyOf}
 use Rattle.line.specs.declared.Word.the-variants.{Refused}
 use Rattle.stream.specs.Frame.{sheet}
 use Rattle.line.specs.Line.{spoken, planLine}
 use Rattle.line.specs.Printed.{Printed}
+
+-- the longest input: unit and tenancy, and twice a length and a sheet
+abbrev pub inputMost : ℕ
+inputMost = 5 + 5 + (2 + requestMost) + (2 + requestMost)
 
 -- a unit with its settings, and the request's sheet
 pub record Ready : Type 0 where
@@ -61,14 +66,16 @@ benchInput = do
   t ← number
   hire n t
 
--- what a request sheet said: its refusal, or the line of its plan
-unfoldable pub Replies : Unit → Out (List ℕ) → List ℕ → Type 0
-Replies u (refused n) line = line ≡ spoken (Refused n)
-Replies u (got copies e) line = (p : Plan) × PlanFor (u .table) copies p × (line ≡ planLine (u .number) (tenancyOf u) p)
+-- the refusal, or the plan
+unfoldable pub answerLine : ℕ → ℕ → Out Plan → List ℕ
+answerLine number tenancy (refused n) = spoken (Refused n)
+answerLine number tenancy (got p e) = planLine number tenancy p
 
 -- the line of a unit's answer to a request
-unfoldable pub Asks : Unit → List ℕ → List ℕ → Type 0
-Asks u s line = Replies u (requestSheet (u .number) (tenancyOf u) (u .table .disks) s 0) line
+pub record Asks (u : Unit) (s line : List ℕ) : Type 0 where
+  pub plan : Out Plan
+  pub plans : Plans (askedOf u s) plan
+  pub says : line ≡ answerLine (u .number) (tenancyOf u) plan
 
 -- the line of an input: of its first refusal, or of the answer to its request
 unfoldable pub Line : Out Ready → List ℕ → Type 0
@@ -82,6 +89,6 @@ pub record Tells (o : Out Ready) (out : List ℕ) (n : ℕ) (after : List ℕ) :
   pub printed : Printed text out n after
 
 -- a rented unit, of those that come from New and the calls
-pub record Let (u : Unit) : Type 0 where
+pub record Rented (u : Unit) : Type 0 where
   pub sound : Sound u
   pub tenancy : 0 < tenancyOf u

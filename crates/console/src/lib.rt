@@ -1,7 +1,11 @@
 // The bench: an input of unit, tenancy, settings sheet and read request to its line.
+use basics::BLOCKS;
+use basics::PLAN_MOST;
+use basics::REQUEST_MOST;
 use field::Field;
 use field::Refusal;
 use field::Written;
+use line::Line;
 use line::refuse;
 use stream::Span;
 use stream::sheet;
@@ -14,17 +18,21 @@ ghost use Rattle.plan.specs.Range.{InRange};
 ghost use Rattle.plan.specs.Draft.{planBytes};
 ghost use Rattle.line.specs.Line.{planLine};
 ghost use Rattle.line.specs.Printed.{Printed};
-ghost use Rattle.console.specs.Bench.{benchInput, Tells, Asks, Let};
+ghost use Rattle.console.specs.Bench.{benchInput, Tells, Asks, Rented};
 ghost use Rattle.console.specs.Bench.{hire as hireOf};
 ghost use Rattle.console.specs.Bench.{settle as settleOf};
 ghost use Rattle.console.specs.Bench.{close as closeOf};
 
+// The bytes of the longest input: unit and tenancy, and twice a length and a sheet.
+pub const INPUT_MOST: usize = 5 + 5 + (2 + REQUEST_MOST) + (2 + REQUEST_MOST);
+
 // The line of a plan sheet, from the sheet itself.
-fn show(unit: u32, tenancy: u32, sheet: &[u8], line: &mut [u8; 24576]) -> usize
-    ensures { λ r. ⌜ ((p : Plan) → InRange p → 0 < tenancy → now (sheet .entry) ≡ planBytes unit tenancy p → Printed (planLine unit tenancy p) (now (line .entry)) r (now (line .exit))) ⌝ }
+fn show(unit: u32, tenancy: u32, sheet: &[u8], line: &mut Line) -> usize
+    ensures { λ r. ⌜ ((p : Plan) → InRange p → 0 < tenancy → now (sheet .entry) ≡ planBytes unit tenancy p
+        → Printed (planLine unit tenancy p) (now (line .entry)) r (now (line .exit))) ⌝ }
 {
-    let mut disks = [0u8; 1024];
-    let mut short = [0u16; 1024];
+    let mut disks = [0u8; BLOCKS];
+    let mut short = [0u16; BLOCKS];
     match plan::read(sheet, unit, tenancy, &mut disks, &mut short) {
         plan::Answer::Accepted(h) => {
             let q = h.blocks;
@@ -36,13 +44,13 @@ fn show(unit: u32, tenancy: u32, sheet: &[u8], line: &mut [u8; 24576]) -> usize
 }
 
 // The request, with room for the longest plan.
-fn ask(u: Unit, request: &[u8], line: &mut [u8; 24576]) -> usize
-    requires { ⌜ Let u ⌝ }
+fn ask(u: Unit, request: &[u8], line: &mut Line) -> usize
+    requires { ⌜ Rented u ⌝ }
     ensures { λ r. ⌜ ((text : List ℕ) × Asks u (now (request .entry)) text × Printed text (now (line .entry)) r (now (line .exit))) ⌝ }
 {
-    let number = u.number;
+    let number = u.number();
     let tenancy = u.tenancy();
-    let mut sheet = [0u8; 2964];
+    let mut sheet = [0u8; PLAN_MOST];
     let planned = u.request(request, &mut sheet);
     let answer = planned.answer;
     match answer {
@@ -52,8 +60,8 @@ fn ask(u: Unit, request: &[u8], line: &mut [u8; 24576]) -> usize
 }
 
 // The request's sheet and the end of the input, and then the request.
-fn close(u: Unit, input: &[u8], at: usize, line: &mut [u8; 24576]) -> usize
-    requires { ⌜ Let u ⌝ }
+fn close(u: Unit, input: &[u8], at: usize, line: &mut Line) -> usize
+    requires { ⌜ Rented u ⌝ }
     ensures { λ r. ⌜ Tells (closeOf u (now (input .entry)) at) (now (line .entry)) r (now (line .exit)) ⌝ }
 {
     match sheet(input, at) {
@@ -69,8 +77,8 @@ fn close(u: Unit, input: &[u8], at: usize, line: &mut [u8; 24576]) -> usize
 }
 
 // The settings, and then what is behind them.
-fn settle(u: Unit, input: &[u8], at: usize, line: &mut [u8; 24576]) -> usize
-    requires { ⌜ Let u ⌝ }
+fn settle(u: Unit, input: &[u8], at: usize, line: &mut Line) -> usize
+    requires { ⌜ Rented u ⌝ }
     ensures { λ r. ⌜ Tells (settleOf u (now (input .entry)) at) (now (line .entry)) r (now (line .exit)) ⌝ }
 {
     match sheet(input, at) {
@@ -90,7 +98,7 @@ fn settle(u: Unit, input: &[u8], at: usize, line: &mut [u8; 24576]) -> usize
 }
 
 // A new unit, rented to the tenancy.
-fn hire(number: u32, tenancy: u32, input: &[u8], at: usize, line: &mut [u8; 24576]) -> usize
+fn hire(number: u32, tenancy: u32, input: &[u8], at: usize, line: &mut Line) -> usize
     ensures { λ r. ⌜ Tells (hireOf number tenancy (now (input .entry)) at) (now (line .entry)) r (now (line .exit)) ⌝ }
 {
     let done = Unit::new(number).rent(tenancy);
@@ -105,11 +113,11 @@ fn hire(number: u32, tenancy: u32, input: &[u8], at: usize, line: &mut [u8; 2457
 }
 
 // Stops at the first refusal.
-pub fn bench(input: &[u8], line: &mut [u8; 24576]) -> usize
+pub fn bench(input: &[u8], line: &mut Line) -> usize
     ensures { λ r. ⌜ Tells (benchInput (now (input .entry)) 0) (now (line .entry)) r (now (line .exit)) ⌝ }
 {
-    match field::any(input, 0) {
-        Field::Got(number, at) => match field::any(input, at) {
+    match field::number(input, 0) {
+        Field::Got(number, at) => match field::number(input, at) {
             Field::Got(tenancy, next) => hire(number, tenancy, input, next, line),
             Field::Refused(e) => refuse(e, line),
         },

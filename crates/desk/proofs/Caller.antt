@@ -1,20 +1,22 @@
 -- What the promises mean to a caller.
 --     written-taken, written-accepted     what a caller takes out of a writer's answer; 0 in the lowest bits says accepted
+--     Handed, plan-handed                 the plan of a sheet comes out of the answer and the two lists
 --     plan-refused, plan-accepted         the same of the plan reader's answer
 --     plan-taken, set-taken   what it takes out of the plan reader's answer, and out of the bytes of the short set
 --     settings-of-numbers, request-of-numbers     lists laid out as bytes give the sheets of those lists
 use mathlib.Core.Path.{_≡_, refl, sym, ap, _∙_, subst}
 use mathlib.Core.Bool.{Bool, false}
 use mathlib.Core.List.{List, [], _∷_}
-use Prim.Native.Nat.{ℕ, _*_, _%_, _^_, _<_}
+use Prim.Native.Nat.{ℕ, _*_, _%_, _^_, _≤_, _<_}
 use native.Mathlib.Omega.{arith}
 use native.Mathlib.Nat.{mul-mod-right}
-use borrow.Author.Tests.{le-ltb}
+use borrow.Author.Tests.{le-leb, le-ltb}
 use lib.Dec.{lit<}
 use lib.ListN.{length, take}
 use Rattle.number.specs.Bytes.{Bytes}
 use Rattle.basics.specs.Choice.{pick}
-use Rattle.basics.proofs.Choice.{pick-false, pick-elim}
+use Rattle.basics.proofs.Choice.{pick-true, pick-false, pick-elim}
+use Rattle.basics.proofs.Tests.{and-both}
 use Rattle.field.specs.Put.{spellAll}
 use Rattle.field.specs.Send.{Draft, sheet, none, answerTo}
 use Rattle.field.specs.Sheet.{Out, got, refused}
@@ -25,13 +27,13 @@ use Rattle.settings.proofs.Writing.{draft-either}
 use Rattle.request.specs.Draft.{checked, requestDraft}
 use Rattle.plan.specs.Plan.{Plan, planSheet}
 use Rattle.plan.proofs.Known.{numbered-plan}
-use Rattle.plan.specs.Receive.{settle, heads}
+use Rattle.plan.specs.Receive.{roomFor, settle, heads, disksLeft}
 use Rattle.basics.specs.Buffer.{over}
 use Rattle.basics.proofs.Buffer.{over-front}
 use Rattle.lent.specs.Numbers.{bytesOf, numbers, broken}
 use Rattle.lent.specs.Packed.{writerAnswer, readerAnswer, refusalIn, lengthIn}
 use Rattle.desk.specs.Desk.{settingsDraftOfBytes, requestDraftOfBytes, Exported, planOf, setLeft, PlanRead}
-use Rattle.lent.proofs.Numbers.{spell-length, numbers-spell}
+use Rattle.lent.proofs.Numbers.{spell-length, numbers-length, numbers-spell}
 use Rattle.lent.proofs.Packed.{Unpacked, written-unpacks, plan-unpacks, refusal-unpacks}
 use Rattle.desk.proofs.Reading.{Packable, plan-of-packable}
 use Rattle.desk.proofs.Writing.{settings-short, request-short}
@@ -183,6 +185,27 @@ set-taken unit t s disks set r disks′ set′ p e b w h =
     ap (λ (x : List ℕ). numbers 2 (take (2 * length (p .short)) x)) held
     ∙ ap (numbers 2) (over-front (spellAll (bytesOf 2) (p .short)) set (2 * length (p .short)) (spell-length 2 (p .short)))
     ∙ numbers-spell 2 (p .short) (lit< tt) (g .members)
+
+-- a plan sheet, read with room for it: its plan comes out of the answer and the two lists
+pub record Handed (p : Plan) (r : ℕ) (disks set : List ℕ) : Type 0 where
+  pub answer : Unpacked (length (p .disks)) (p .time) (length (p .short)) r
+  pub blocks : take (length (p .disks)) disks ≡ p .disks
+  pub members : numbers 2 (take (2 * length (p .short)) set) ≡ p .short
+
+pub plan-handed : {unit t : ℕ} {s disks set : List ℕ} {r : ℕ} {disks′ set′ : List ℕ} (p : Plan) (e : ℕ) → Bytes s
+    → planSheet unit t s 0 ≡ got p e → length (p .disks) ≤ length disks → 2 * length (p .short) ≤ length set
+    → PlanRead unit t s disks set r disks′ set′ → Handed p r disks′ set′
+unfolding planOf settle roomFor disksLeft
+plan-handed {unit} {t} {s} {disks} {set} {r} {disks′} {set′} p e b h l m w =
+    let fits : length (p .short) ≤ length (numbers 2 set) = omega (arith, numbers-length 2 set) in
+    let q : planOf unit t s disks set ≡ got p e =
+    ap (λ (o : Out Plan). settle o disks (numbers 2 set)) h ∙ pick-true _ _ (and-both _ _ (le-leb _ _ l) (le-leb _ _ fits)) in
+    record {
+      answer = plan-taken unit t s disks set r disks′ set′ p e b w q;
+      blocks = ap (take (length (p .disks))) (w .blocks ∙ ap (λ (o : Out Plan). disksLeft o disks) q)
+          ∙ over-front (p .disks) disks (length (p .disks)) refl;
+      members = set-taken unit t s disks set r disks′ set′ p e b w q;
+    }
 
 -- ---- lists laid out as bytes
 

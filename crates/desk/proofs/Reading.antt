@@ -27,7 +27,7 @@ use Rattle.plan.specs.Range.{InRange}
 use Rattle.plan.specs.Receive.{roomFor, settle, heads, disksLeft, shortLeft, Received}
 use Rattle.basics.specs.Buffer.{over}
 use Rattle.plan.specs.Told.{toldPlan}
-use Rattle.plan.proofs.Bounds.{any-most}
+use Rattle.plan.proofs.Reading.{any-most}
 use Rattle.basics.proofs.Buffer.{over-front}
 use Rattle.plan.proofs.RoundTrip.{sheet-exact}
 use Rattle.lent.specs.Numbers.{bytesOf, numbers, Room}

@@ -1,6 +1,6 @@
 -- Laws of the two writers.
 --     exported-refused, exported-sent     a refusal before the sheet's writer, and what that writer did
---     settings-unusable, ..         lists that are broken or too long are 6
+--     costs-unusable, loads-unusable, delays-unusable         lists that are broken or too long are 6
 --     settings-short, ..            the length of a sheet has room in its bits
 use mathlib.Core.Path.{_≡_, refl, sym, ap, _∙_}
 use mathlib.Core.Bool.{Bool, true, false, _||_}
@@ -21,7 +21,7 @@ use Rattle.settings.specs.Draft.{settingsDraft}
 use Rattle.settings.proofs.Longest.{longest-written as longest-settings}
 use Rattle.settings.proofs.Writing.{Sheeted, draft-either}
 use Rattle.request.specs.Draft.{requestDraft}
-use Rattle.request.proofs.RoundTrip.{longest-written as longest-request}
+use Rattle.request.proofs.Longest.{longest-written as longest-request}
 use Rattle.lent.specs.Numbers.{numbers, broken, usable}
 use Rattle.lent.specs.Packed.{writerAnswer, Fits32}
 use Rattle.desk.specs.Desk.{settingsDraftOfBytes, requestDraftOfBytes, Exported}
@@ -75,14 +75,14 @@ module _ (unit t : ℕ) (costs loads delays : List ℕ) where
   pub costs-unusable : usable 4 64 costs ≡ false → settingsDraftOfBytes unit t costs loads delays ≡ none 6
   costs-unusable h =
       ⊎-elim (λ b. settings-broken (ap (λ (x : Bool). x || (broken 4 loads || broken 4 delays)) b))
-      (λ l. settings-long (λ w. omega (arith, w .few)))
+      (λ l. settings-long (λ w. omega (arith, w .fit .few)))
       (not-usable 4 64 costs h)
 
   pub loads-unusable : usable 4 64 costs ≡ true → usable 4 64 loads ≡ false → settingsDraftOfBytes unit t costs loads delays ≡ none 6
   loads-unusable c h =
       ⊎-elim (λ b. settings-broken (ap (λ (x : Bool). x || (broken 4 loads || broken 4 delays)) (is-usable 4 64 costs c .0)
       ∙ ap (λ (x : Bool). x || broken 4 delays) b))
-      (λ l. settings-long (λ w. omega (arith, w .few, w .loads)))
+      (λ l. settings-long (λ w. omega (arith, w .fit .few, w .fit .loads)))
       (not-usable 4 64 loads h)
 
   pub delays-unusable : usable 4 64 costs ≡ true → usable 4 64 loads ≡ true → usable 4 64 delays ≡ false
@@ -90,7 +90,7 @@ module _ (unit t : ℕ) (costs loads delays : List ℕ) where
   delays-unusable c l h =
       ⊎-elim (λ b. settings-broken (ap (λ (x : Bool). x || (broken 4 loads || broken 4 delays)) (is-usable 4 64 costs c .0)
       ∙ ap (λ (x : Bool). x || broken 4 delays) (is-usable 4 64 loads l .0) ∙ b))
-      (λ k. settings-long (λ w. omega (arith, w .few, w .delays)))
+      (λ k. settings-long (λ w. omega (arith, w .fit .few, w .fit .delays)))
       (not-usable 4 64 delays h)
 
   pub settings-usable : usable 4 64 costs ≡ true → usable 4 64 loads ≡ true → usable 4 64 delays ≡ true

@@ -10,38 +10,36 @@ use native.Mathlib.Numerals.{add-one}
 use lib.Dec.{eqb, ltb}
 use lib.ListN.{getD, set, length, length-set, List·getD-eq-default}
 use lib.Seq.{getD-set-same, getD-set-other}
+use borrow.Author.Count.{below-more}
 use borrow.Author.Tests.{ltb-true, ltb-false, eqb-true, eqb-false, eq-eqb, ne-eqb}
+use Rattle.basics.specs.Limits.{blocksMost}
 use Rattle.basics.specs.Count.{any}
 use Rattle.basics.proofs.Tests.{by-cases, differ, or-right, not-here}
 use Rattle.basics.proofs.Count.{any-ext, any-some}
-use Rattle.order.proofs.Spreads.{below-step}
 use Rattle.engine.specs.Planned.{listed, Rising}
-use Rattle.engine.specs.Steps.{Loaded, Stored}
+use Rattle.engine.specs.Parts.{Loaded, Stored}
 
 pub record Copied (b : ℕ) (from to₀ to : List ℕ) : Type 0 where
   pub long : length to ≡ length to₀
   pub same : (i : ℕ) → i < b → getD to i 0 ≡ getD from i 0
   pub rest : (i : ℕ) → b ≤ i → getD to i 0 ≡ getD to₀ i 0
 
-module _ (from to₀ : List ℕ) where
-  pub copied-start : Copied 0 from to₀ to₀
-  copied-start = record { long = refl; same = λ i l. let z : ⊥ = omega (arith, l) in absurd z; rest = λ i l. refl }
+pub copied-start : (from to₀ : List ℕ) → Copied 0 from to₀ to₀
+copied-start from to₀ = record { long = refl; same = λ i l. absurd (omega (arith, l)); rest = λ i l. refl }
 
-  pub copied-more : (b : ℕ) (to : List ℕ) → b < length to → Copied b from to₀ to → Copied (b + 1) from to₀ (set to b (getD from b 0))
-  copied-more b to h s =
+module _ {b : ℕ} {from to₀ to : List ℕ} (s : Copied b from to₀ to) where
+  pub copied-more : b < length to → Copied (b + 1) from to₀ (set to b (getD from b 0))
+  copied-more h =
       record {
         long = length-set to b (getD from b 0) ∙ s .long;
-        same = λ i l. by-cases (eqb i b)
-            (λ t. let e : i ≡ b = eqb-true i b t in
-            ap (λ (y : ℕ). getD (set to b (getD from b 0)) y 0) e ∙ getD-set-same to b (getD from b 0) 0 h
-            ∙ ap (λ (y : ℕ). getD from y 0) (sym e))
-            (λ t. getD-set-other to b i (getD from b 0) 0 (eqb-false i b t) ∙ s .same i (let z = eqb-false i b t in omega arith));
+        same = below-more (λ i. getD (set to b (getD from b 0)) i 0 ≡ getD from i 0) b
+            (λ i l. getD-set-other to b i (getD from b 0) 0 (omega arith) ∙ s .same i l)
+            (getD-set-same to b (getD from b 0) 0 h);
         rest = λ i l. getD-set-other to b i (getD from b 0) 0 (omega arith) ∙ s .rest i (omega arith);
       }
 
-  pub copied-loaded : (b : ℕ) (to : List ℕ) → length from ≤ b → length to₀ ≡ 1024 → ((i : ℕ) → getD to₀ i 0 ≡ 0)
-      → Copied b from to₀ to → Loaded from to
-  copied-loaded b to h l z s =
+  pub copied-loaded : length from ≤ b → length to₀ ≡ blocksMost → ((i : ℕ) → getD to₀ i 0 ≡ 0) → Loaded from to
+  copied-loaded h l z =
       record {
         long = s .long ∙ l;
         same = λ i. by-cases (ltb i b)
@@ -49,8 +47,8 @@ module _ (from to₀ : List ℕ) where
             (λ t. let m = ltb-false i b t in s .rest i m ∙ z i ∙ sym (List·getD-eq-default from 0 (omega arith)));
       }
 
-  pub copied-stored : (q b : ℕ) (to : List ℕ) → b ≡ q → Copied b from to₀ to → Stored q from to₀ to
-  copied-stored q b to e s =
+  pub copied-stored : {q : ℕ} → b ≡ q → Stored q from to₀ to
+  copied-stored e =
       record {
         same = λ i l. s .same i (omega (arith, e, l));
         rest = λ i l. s .rest i (omega (arith, e, l));
@@ -78,64 +76,65 @@ pub record Listing (b : ℕ) (S : ℕ → Bool) (short₀ short : List ℕ) (m :
   pub set : Rising b m short₀ short
   pub same : (c : ℕ) → c < b → listed short m c ≡ S c
 
-module _ (S : ℕ → Bool) (short₀ : List ℕ) where
-  pub listing-start : Listing 0 S short₀ short₀ 0
-  listing-start =
+pub listing-start : (S : ℕ → Bool) (short₀ : List ℕ) → Listing 0 S short₀ short₀ 0
+listing-start S short₀ =
+    record {
+      set = record {
+        few = omega arith;
+        below = λ i l. omega (arith, l);
+        rising = λ i j l k. absurd (omega (arith, l, k));
+        short-rest = λ i l. refl;
+        short-long = refl;
+      };
+      same = λ c l. absurd (omega (arith, l));
+    }
+
+module _ {b : ℕ} {S : ℕ → Bool} {short₀ short : List ℕ} {m : ℕ} (s : Listing b S short₀ short m) where
+  pub listing-skip : S b ≡ false → Listing (b + 1) S short₀ short m
+  unfolding listed
+  listing-skip e =
       record {
         set = record {
-          few = omega arith;
-          below = λ i l. omega (arith, l);
-          rising = λ i j l k. let z : ⊥ = omega (arith, l, k) in absurd z;
-          short-rest = λ i l. refl;
-          short-long = refl;
+          few = omega (arith, s .set .few);
+          below = λ i l. omega (arith, s .set .below i l);
+          rising = s .set .rising;
+          short-rest = s .set .short-rest;
+          short-long = s .set .short-long;
         };
-        same = λ c l. let z : ⊥ = omega (arith, l) in absurd z;
+        same = below-more (λ c. listed short m c ≡ S c) b (s .same)
+            (any-false m (λ i. eqb (getD short i 0) b)
+            (λ i l. ne-eqb (getD short i 0) b (λ z. omega (arith, z, s .set .below i l))) ∙ sym e);
       }
 
-  module _ (b m : ℕ) (short : List ℕ) (s : Listing b S short₀ short m) where
-    pub listing-skip : S b ≡ false → Listing (b + 1) S short₀ short m
-    unfolding listed
-    listing-skip e =
-        record {
-          set = record {
-            few = omega (arith, s .set .few);
-            below = λ i l. omega (arith, s .set .below i l);
-            rising = s .set .rising;
-            short-rest = s .set .short-rest;
-            short-long = s .set .short-long;
-          };
-          same = below-step b (λ c. listed short m c ≡ S c) (s .same)
-              (any-false m (λ i. eqb (getD short i 0) b) (λ i l. ne-eqb (getD short i 0) b (λ z. omega (arith, z, s .set .below i l))) ∙ sym e);
-        }
-
-    pub listing-put : S b ≡ true → m < length short → Listing (b + 1) S short₀ (write short m b) (m + 1)
-    unfolding listed
-    listing-put e h =
-        let here : getD (write short m b) m 0 ≡ b = getD-set-same short m b 0 h in
-        let else : (i : ℕ) → (i ≡ m → ⊥) → getD (write short m b) i 0 ≡ getD short i 0 = λ i n. getD-set-other short m i b 0 n in
-        let old : (c : ℕ) → any m (λ i. eqb (getD (write short m b) i 0) c) ≡ any m (λ i. eqb (getD short i 0) c) =
-        λ c. any-ext m (λ i. eqb (getD (write short m b) i 0) c) (λ i. eqb (getD short i 0) c)
-        (λ i l. ap (λ (y : ℕ). eqb y c) (else i (omega arith))) in
-        record {
-          set = record {
-            few = omega (arith, s .set .few);
-            below = λ i l. by-cases (eqb i m)
-                (λ t. let z = ap (λ (y : ℕ). getD (write short m b) y 0) (eqb-true i m t) in omega (arith, z, here))
-                (λ t. let n = eqb-false i m t in omega (arith, else i n, s .set .below i (omega arith)));
-            rising = λ i j l k. by-cases (eqb j m)
-                (λ t. let z = ap (λ (y : ℕ). getD (write short m b) y 0) (eqb-true j m t) in
-                let r = eqb-true j m t in omega (arith, z, here, else i (omega arith), s .set .below i (omega arith)))
-                (λ t. let n = eqb-false j m t in
-                omega (arith, else i (omega arith), else j n, s .set .rising i j l (omega arith)));
-            short-rest = λ i l. else i (omega arith) ∙ s .set .short-rest i (omega arith);
-            short-long = length-set short m b ∙ s .set .short-long;
-          };
-          same = below-step b (λ c. listed (write short m b) (m + 1) c ≡ S c)
-              (λ c l. any-next m (λ i. eqb (getD (write short m b) i 0) c)
-              ∙ or-false (any m (λ i. eqb (getD (write short m b) i 0) c)) (eqb (getD (write short m b) m 0) c)
-              (ne-eqb (getD (write short m b) m 0) c (λ z. omega (arith, z, here, l)))
-              ∙ old c ∙ s .same c l)
-              (any-next m (λ i. eqb (getD (write short m b) i 0) b)
-              ∙ or-right (any m (λ i. eqb (getD (write short m b) i 0) b)) (eqb (getD (write short m b) m 0) b) (eq-eqb (getD (write short m b) m 0) b here)
-              ∙ sym e);
-        }
+  pub listing-put : S b ≡ true → m < length short → Listing (b + 1) S short₀ (write short m b) (m + 1)
+  unfolding listed
+  listing-put e h =
+      let here : getD (write short m b) m 0 ≡ b = getD-set-same short m b 0 h in
+      let else : (i : ℕ) → (i ≡ m → ⊥) → getD (write short m b) i 0 ≡ getD short i 0 = λ i n. getD-set-other short m i b 0 n in
+      let old : (c : ℕ) → any m (λ i. eqb (getD (write short m b) i 0) c) ≡ any m (λ i. eqb (getD short i 0) c) =
+      λ c. any-ext m (λ i. eqb (getD (write short m b) i 0) c) (λ i. eqb (getD short i 0) c)
+      (λ i l. ap (λ (y : ℕ). eqb y c) (else i (omega arith))) in
+      record {
+        set = record {
+          few = omega (arith, s .set .few);
+          below = λ i l. by-cases (eqb i m)
+              (λ t. let z = ap (λ (y : ℕ). getD (write short m b) y 0) (eqb-true i m t) in omega (arith, z, here))
+              (λ t. let n = eqb-false i m t in omega (arith, else i n, s .set .below i (omega arith)));
+          rising = λ i j l k. by-cases (eqb j m)
+              (λ t. let z = ap (λ (y : ℕ). getD (write short m b) y 0) (eqb-true j m t) in
+              let r = eqb-true j m t in omega (arith, z, here, else i (omega arith), s .set .below i (omega arith)))
+              (λ t. let n = eqb-false j m t in
+              omega (arith, else i (omega arith), else j n, s .set .rising i j l (omega arith)));
+          short-rest = λ i l. else i (omega arith) ∙ s .set .short-rest i (omega arith);
+          short-long = length-set short m b ∙ s .set .short-long;
+        };
+        same = below-more (λ c. listed (write short m b) (m + 1) c ≡ S c) b
+            (λ c l. any-next m (λ i. eqb (getD (write short m b) i 0) c)
+            ∙ or-false (any m (λ i. eqb (getD (write short m b) i 0) c)) (eqb (getD (write short m b) m 0) c)
+            (ne-eqb (getD (write short m b) m 0) c (λ z. omega (arith, z, here, l)))
+            ∙ old c ∙ s .same c l)
+            (any-next m (λ i. eqb (getD (write short m b) i 0) b)
+            ∙ or-right (any m (λ i. eqb (getD (write short m b) i 0) b)) (eqb (getD (write short m b) m 0) b)
+            (eq-eqb (getD (write short m b) m 0) b here)
+            ∙ sym e);
+      }

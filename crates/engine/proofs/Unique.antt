@@ -11,7 +11,6 @@ use lib.Dec.{eqb, ltb}
 use lib.ListN.{getD, length}
 use lib.Seq.{ext-getD}
 use borrow.Author.Tests.{ltb-true, ltb-false, eqb-true, eqb-false, eq-eqb}
-use Rattle.basics.specs.Count.{any}
 use Rattle.model.specs.Order.{Agree}
 use Rattle.basics.proofs.Tests.{by-cases, below-suc}
 use Rattle.basics.proofs.Count.{any-here, any-some}

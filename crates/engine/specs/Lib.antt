@@ -1,3 +1,3 @@
 pub mod Spelled
 pub mod Planned
-pub mod Steps
+pub mod Parts

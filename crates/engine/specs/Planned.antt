@@ -5,6 +5,7 @@ use mathlib.Core.Bool.{Bool}
 use mathlib.Core.List.{List}
 use lib.Dec.{eqb}
 use lib.ListN.{getD, length}
+use Rattle.basics.specs.Limits.{timeMost}
 use Rattle.basics.specs.Count.{any}
 use Rattle.model.specs.Plan.{Optimal}
 use Rattle.engine.specs.Spelled.{spelled}
@@ -28,4 +29,4 @@ pub record Planned (copies costs starts disks short disks′ short′ : List ℕ
   pub set : Rising (length copies) (r .size) short short′
   pub disks-rest : (b : ℕ) → length copies ≤ b → getD disks′ b 0 ≡ getD disks b 0
   pub disks-long : length disks′ ≡ length disks
-  pub time-most : r .time ≤ 1125000000
+  pub time-most : r .time ≤ timeMost

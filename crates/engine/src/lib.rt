@@ -2,11 +2,22 @@
 ghost use mathlib.Core.Path.{_≡_};
 ghost use Prim.Native.Nat.{ℕ, _<_, _≤_};
 ghost use lib.ListN.{length, getD};
-ghost use Rattle.timing.specs.Times.{Fits, Least};
-ghost use Rattle.order.specs.Sorting.{Bound};
+ghost use Rattle.basics.specs.Limits.{blocksMost};
+ghost use Rattle.timing.specs.Times.{Least};
+ghost use Rattle.order.specs.Ordered.{Scheduled};
 ghost use Rattle.engine.specs.Spelled.{Ready};
 ghost use Rattle.engine.specs.Planned.{Planned};
-ghost use Rattle.engine.specs.Steps.{Loaded, Stored, Listed, Blank, Named, Sorted};
+ghost use Rattle.engine.specs.Parts.{Loaded, Stored, Listed, Fresh, Naming, Named, Sorted, Solving, Solved};
+use basics::BLOCKS;
+use basics::Capacities;
+use basics::Counts;
+use basics::DISKS;
+use basics::Links;
+use basics::Masks;
+use basics::NODES;
+use basics::PLACES;
+use basics::Reaches;
+use basics::Seats;
 
 // The least time R, and how many blocks the short set has.
 pub struct Answer {
@@ -15,8 +26,8 @@ pub struct Answer {
 }
 
 // The copies of all blocks, in an array of zeros.
-fn load(copies: &[u64], masks: &mut [u64; 1024])
-    requires { ⌜ (length (now copies) ≤ 1024) × (length (now masks) ≡ 1024) × ((b : ℕ) → getD (now masks) b 0 ≡ 0) ⌝ }
+fn load(copies: &[u64], masks: &mut Masks)
+    requires { ⌜ (length (now copies) ≤ blocksMost) × (length (now masks) ≡ blocksMost) × ((b : ℕ) → getD (now masks) b 0 ≡ 0) ⌝ }
     ensures { λ _. ⌜ Loaded (now (copies .entry)) (now (masks .exit)) ⌝ }
 {
     let mut b = 0;
@@ -27,20 +38,20 @@ fn load(copies: &[u64], masks: &mut [u64; 1024])
 }
 
 // The places of all blocks, in the lent buffer.
-fn store(q: usize, at: &[u8; 1024], disks: &mut [u8])
-    requires { ⌜ (q ≤ 1024) × (q ≤ length (now disks)) ⌝ }
-    ensures { λ _. ⌜ Stored q (now (at .entry)) (now (disks .entry)) (now (disks .exit)) ⌝ }
+fn store(q: usize, seats: &Seats, disks: &mut [u8])
+    requires { ⌜ (q ≤ blocksMost) × (q ≤ length (now disks)) ⌝ }
+    ensures { λ _. ⌜ Stored q (now (seats .entry)) (now (disks .entry)) (now (disks .exit)) ⌝ }
 {
     let mut b = 0;
     while b < q {
-        disks[b] = at[b];
+        disks[b] = seats[b];
         b += 1;
     }
 }
 
 // The blocks whose copies are all in x, rising, in the lent buffer.
-fn list_among(q: usize, masks: &[u64; 1024], x: u64, short: &mut [u16]) -> usize
-    requires { ⌜ (q ≤ 1024) × (q ≤ length (now short)) ⌝ }
+fn list_among(q: usize, masks: &Masks, x: u64, short: &mut [u16]) -> usize
+    requires { ⌜ (q ≤ blocksMost) × (q ≤ length (now short)) ⌝ }
     ensures { λ r. ⌜ Listed q (now (masks .entry)) x (now (short .entry)) (now (short .exit)) r ⌝ }
 {
     let mut size: usize = 0;
@@ -61,35 +72,69 @@ fn schedule(
     q: usize,
     costs: &[u32],
     starts: &[u32],
-    masks: &[u64; 1024],
-    caps: &mut [u32; 64],
-    at: &mut [u8; 1024],
-    loads: &mut [u32; 65],
+    masks: &Masks,
+    caps: &mut Capacities,
+    seats: &mut Seats,
+    counts: &mut Counts,
+    next: &mut Links,
+    prev: &mut Links,
+    out: &mut Reaches,
 ) -> u32
-    requires { ⌜ Blank n q (now masks) (now costs) (now starts) (now caps) (now at) (now loads) ⌝ }
-    ensures { λ r. ⌜ Least n q (now (masks .entry)) (now (costs .entry)) (now (starts .entry)) (now (caps .exit)) (now (at .exit)) (now (loads .exit)) r ⌝ }
+    requires { ⌜ Fresh n q (now masks) (now costs) (now starts) (now caps) (now seats) (now counts) (now next) (now prev) (now out) ⌝ }
+    ensures { λ r. ⌜ Least n q (now (masks .entry)) (now (costs .entry)) (now (starts .entry)) (now (caps .exit)) (now (seats .exit))
+        (now (counts .exit)) (now (next .exit)) (now (prev .exit)) (now (out .exit)) r ⌝ }
 {
-    places::clear_all(n, q, at, loads);
-    timing::least(n, q, costs, starts, masks, caps, at, loads)
+    places::clear_all(n, q, seats, counts, next, prev);
+    timing::least(
+        n,
+        q,
+        costs,
+        starts,
+        masks,
+        caps,
+        seats,
+        counts,
+        next,
+        prev,
+        out,
+    )
 }
 
-// The short set just before time t, in the lent buffer; the schedule in time t is used up.
+// The short set just before time t, in the lent buffer, from a schedule in time t; another one may be left.
 fn name_short(
     n: usize,
     q: usize,
     costs: &[u32],
     starts: &[u32],
     t: u32,
-    masks: &[u64; 1024],
-    caps: &mut [u32; 64],
-    at: &mut [u8; 1024],
-    loads: &mut [u32; 65],
+    masks: &Masks,
+    caps: &mut Capacities,
+    seats: &mut Seats,
+    counts: &mut Counts,
+    next: &mut Links,
+    prev: &mut Links,
+    out: &mut Reaches,
     short: &mut [u16],
 ) -> usize
-    requires { ⌜ (Fits n q (now masks) (now costs) (now starts) t (now caps) (now at) (now loads)) × (getD (now loads) n 0 ≡ 0) × (q ≤ length (now short)) ⌝ }
-    ensures { λ r. ⌜ Named n q (now (masks .entry)) (now (costs .entry)) (now (starts .entry)) t (now (short .entry)) (now (short .exit)) r ⌝ }
+    requires { ⌜ Naming n q (now masks) (now costs) (now starts) t (now caps) (now seats) (now counts) (now next) (now prev) (now out)
+        (now short) ⌝ }
+    ensures { λ r. ⌜ Named n q (now (masks .entry)) (now (costs .entry)) (now (starts .entry)) t (now (caps .exit)) (now (seats .exit))
+        (now (counts .exit)) (now (next .exit)) (now (prev .exit)) (now (out .exit)) (now (short .entry)) (now (short .exit)) r ⌝ }
 {
-    let x = timing::short_disks(n, q, costs, starts, t, masks, caps, at, loads);
+    let x = timing::short_disks(
+        n,
+        q,
+        costs,
+        starts,
+        t,
+        masks,
+        caps,
+        seats,
+        counts,
+        next,
+        prev,
+        out,
+    );
     list_among(q, masks, x, short)
 }
 
@@ -97,17 +142,74 @@ fn name_short(
 fn sort_out(
     n: usize,
     q: usize,
-    masks: &mut [u64; 1024],
-    caps: &[u32; 64],
-    at: &mut [u8; 1024],
-    loads: &mut [u32; 65],
+    masks: &mut Masks,
+    caps: &Capacities,
+    seats: &mut Seats,
+    counts: &mut Counts,
+    next: &mut Links,
+    prev: &mut Links,
+    out: &mut Reaches,
     disks: &mut [u8],
 )
-    requires { ⌜ (Bound n q 0 (now masks) (now caps) (now at) (now loads)) × (q ≤ length (now disks)) ⌝ }
+    requires { ⌜ (Scheduled n q (now masks) (now caps) (now seats) (now counts) (now next) (now prev) (now out))
+        × (q ≤ length (now disks)) ⌝ }
     ensures { λ _. ⌜ Sorted n q (now (masks .entry)) (now (caps .entry)) (now (disks .entry)) (now (disks .exit)) ⌝ }
 {
-    order::first(n, q, masks, caps, at, loads);
-    store(q, at, disks);
+    order::first(n, q, masks, caps, seats, counts, next, prev, out);
+    store(q, seats, disks);
+}
+
+// The plan of the case that masks, costs and starts spell; all other arrays are used up.
+fn solve(
+    n: usize,
+    q: usize,
+    costs: &[u32],
+    starts: &[u32],
+    masks: &mut Masks,
+    caps: &mut Capacities,
+    seats: &mut Seats,
+    counts: &mut Counts,
+    next: &mut Links,
+    prev: &mut Links,
+    out: &mut Reaches,
+    disks: &mut [u8],
+    short: &mut [u16],
+) -> Answer
+    requires { ⌜ Solving n q (now masks) (now costs) (now starts) (now caps) (now seats) (now counts) (now next) (now prev) (now out)
+        (now disks) (now short) ⌝ }
+    ensures { λ r. ⌜ Solved q (now (masks .entry)) (now (costs .entry)) (now (starts .entry)) (now (disks .entry)) (now (short .entry))
+        (now (disks .exit)) (now (short .exit)) r ⌝ }
+{
+    let time = schedule(
+        n,
+        q,
+        costs,
+        starts,
+        masks,
+        caps,
+        seats,
+        counts,
+        next,
+        prev,
+        out,
+    );
+    let size = name_short(
+        n,
+        q,
+        costs,
+        starts,
+        time,
+        masks,
+        caps,
+        seats,
+        counts,
+        next,
+        prev,
+        out,
+        short,
+    );
+    sort_out(n, q, masks, caps, seats, counts, next, prev, out, disks);
+    Answer { time, size }
 }
 
 // The plan of the case that the slices spell: disks[b] is the disk of block b, short[..size] the short set, time the least time.
@@ -119,31 +221,30 @@ pub fn plan(
     short: &mut [u16],
 ) -> Answer
     requires { ⌜ Ready (now copies) (now costs) (now starts) (now disks) (now short) ⌝ }
-    ensures { λ r. ⌜ Planned (now (copies .entry)) (now (costs .entry)) (now (starts .entry)) (now (disks .entry)) (now (short .entry)) (now (disks .exit)) (now (short .exit)) r ⌝ }
+    ensures { λ r. ⌜ Planned (now (copies .entry)) (now (costs .entry)) (now (starts .entry)) (now (disks .entry)) (now (short .entry))
+        (now (disks .exit)) (now (short .exit)) r ⌝ }
 {
-    let n = costs.len();
-    let q = copies.len();
-    let mut masks = [0u64; 1024];
+    let mut masks = [0u64; BLOCKS];
     load(copies, &mut masks);
-    let mut caps = [0u32; 64];
-    let mut at = [0u8; 1024];
-    let mut loads = [0u32; 65];
-    let time = schedule(n, q, costs, starts, &masks, &mut caps, &mut at, &mut loads);
-    let mut sooner = caps;
-    let mut seats = at;
-    let mut counts = loads;
-    let size = name_short(
-        n,
-        q,
+    let mut caps = [0u32; DISKS];
+    let mut seats = [0u8; BLOCKS];
+    let mut counts = [0u32; PLACES];
+    let mut next = [0u16; NODES];
+    let mut prev = [0u16; NODES];
+    let mut out = [0u64; PLACES];
+    solve(
+        costs.len(),
+        copies.len(),
         costs,
         starts,
-        time,
-        &masks,
-        &mut sooner,
+        &mut masks,
+        &mut caps,
         &mut seats,
         &mut counts,
+        &mut next,
+        &mut prev,
+        &mut out,
+        disks,
         short,
-    );
-    sort_out(n, q, &mut masks, &caps, &mut at, &mut loads, disks);
-    Answer { time, size }
+    )
 }

@@ -4,20 +4,19 @@
 --     Numbered         a reader that gives nothing else
 --     refusal-known    the numbers of the refusals that the code has
 use Prim.Native.Nat.{ℕ, zero, suc, _+_, _≤_}
-use mathlib.Core.Bool.{Bool, true, false}
+use mathlib.Core.Bool.{Bool}
 use mathlib.Core.List.{List, [], _∷_}
 use native.Mathlib.Omega.{arith}
-use lib.Dec.{eqb, ltb}
-use lib.ListN.{length, drop}
+use lib.ListN.{drop}
 use Rattle.basics.specs.Limits.{refusalsMost}
-use Rattle.basics.specs.Choice.{pick}
 use Rattle.basics.proofs.Choice.{pick-elim}
 use Rattle.number.specs.Decode.{Decoded, value, under, more, decode, refused as bad}
 use Rattle.field.specs.declared.Refusal.{Refusal}
-use Rattle.field.specs.declared.Refusal.the-variants.{SheetEnds, BadNumber, WrongKind, WrongUnit, WrongTenancy, OutOfRange, NoCopy, NotRising, BytesFollow, NoSettings, NoRoom, Rented, NotAbove, NotTheTenant}
+use Rattle.field.specs.declared.Refusal.the-variants.{SheetEnds, BadNumber, WrongKind, WrongUnit, WrongTenancy, OutOfRange, NoCopy}
+use Rattle.field.specs.declared.Refusal.the-variants.{NotRising, BytesFollow, NoSettings, NoRoom, Rented, NotAbove, NotTheTenant}
 use Rattle.field.specs.Refusal.{numberOf}
 use Rattle.field.specs.Sheet.{Out, got, refused, Parser, andThen, _>>=_, _>>_, pure, require, times}
-use Rattle.field.specs.Field.{taken, number, exactly, tenancy, inside, rising, ascending, opening, end, whole}
+use Rattle.field.specs.Field.{taken, number, between, inside, ascending, kind, addressed, opening, end, whole}
 
 abbrev pub Known : ℕ → Type 0
 Known n = (1 ≤ n) × (n ≤ refusalsMost)
@@ -99,45 +98,32 @@ numbered-number = record { answers = λ s at. answers-taken at (decode (drop at 
 
 -- ---- the fields
 
-pub numbered-exactly : (want : ℕ) {e : ℕ} → Known e → Numbered (exactly want e)
-unfolding exactly
-numbered-exactly want h = numbered-bind numbered-number (λ v. numbered-then (numbered-require (eqb v want) h) (numbered-pure v))
+pub numbered-between : (low high : ℕ) {under above : ℕ} → Known under → Known above → Numbered (between low high under above)
+unfolding between
+numbered-between low high u a =
+    numbered-bind numbered-number (λ v. numbered-then (numbered-require _ a) (numbered-then (numbered-require _ u) (numbered-pure v)))
 
-pub numbered-tenancy : (want : ℕ) → Numbered (tenancy want)
-unfolding tenancy
-numbered-tenancy want =
-    numbered-bind numbered-number
-    (λ v.
-    numbered-then (numbered-require _ (known (omega arith) (omega arith)))
-    (numbered-then (numbered-require _ (known (omega arith) (omega arith))) (numbered-pure v)))
-
-pub numbered-inside : (low high : ℕ) → Numbered (inside low high)
-unfolding inside
-numbered-inside low high =
-    numbered-bind numbered-number
-    (λ v.
-    numbered-then (numbered-require _ (known (omega arith) (omega arith)))
-    (numbered-then (numbered-require _ (known (omega arith) (omega arith))) (numbered-pure v)))
-
-numbered-rising : (floor high : ℕ) → Numbered (rising floor high)
-unfolding rising
-numbered-rising floor high =
-    numbered-bind numbered-number
-    (λ v.
-    numbered-then (numbered-require _ (known (omega arith) (omega arith)))
-    (numbered-then (numbered-require _ (known (omega arith) (omega arith))) (numbered-pure v)))
+-- out of range is 6
+pub numbered-inside : (low high : ℕ) → Numbered (inside low high 6)
+numbered-inside low high = numbered-between low high (known (omega arith) (omega arith)) (known (omega arith) (omega arith))
 
 pub numbered-ascending : (n floor high : ℕ) → Numbered (ascending n floor high)
 unfolding ascending
 numbered-ascending zero floor high = numbered-pure []
 numbered-ascending (suc n) floor high =
-    numbered-bind (numbered-rising floor high) (λ v. numbered-bind (numbered-ascending n (v + 1) high) (λ vs. numbered-pure (v ∷ vs)))
+    numbered-bind (numbered-between floor high (known (omega arith) (omega arith)) (known (omega arith) (omega arith)))
+    (λ v. numbered-bind (numbered-ascending n (v + 1) high) (λ vs. numbered-pure (v ∷ vs)))
 
-pub numbered-opening : (kind unit t : ℕ) → Numbered (opening kind unit t)
-unfolding opening
-numbered-opening kind unit t =
-    numbered-then (numbered-exactly kind (known (omega arith) (omega arith)))
-    (numbered-then (numbered-exactly unit (known (omega arith) (omega arith))) (numbered-tenancy t))
+pub numbered-opening : (kinds : List ℕ) (unit t : ℕ) → Numbered (opening kinds unit t)
+unfolding opening kind addressed
+numbered-opening kinds unit t =
+    numbered-bind
+    (numbered-bind numbered-number (λ k. numbered-then (numbered-require _ (known (omega arith) (omega arith))) (numbered-pure k)))
+    (λ k. numbered-then
+    (numbered-then
+    (numbered-between unit unit (known (omega arith) (omega arith)) (known (omega arith) (omega arith)))
+    (numbered-between _ t (known (omega arith) (omega arith)) (known (omega arith) (omega arith))))
+    (numbered-pure k))
 
 numbered-end : Numbered end
 unfolding end Answers
@@ -150,7 +136,6 @@ numbered-whole h = numbered-bind h (λ a. numbered-then numbered-end (numbered-p
 -- ---- the code's refusals
 
 pub refusal-known : (e : Refusal) → Known (numberOf e)
-unfolding numberOf
 refusal-known SheetEnds = known (omega arith) (omega arith)
 refusal-known BadNumber = known (omega arith) (omega arith)
 refusal-known WrongKind = known (omega arith) (omega arith)

@@ -15,9 +15,9 @@ use Rattle.field.specs.Sheet.{Out, got, refused, Parser, andThen, _>>=_,
 use Rattle.field.specs.Field.{rising, ascending}
 use Rattle.basics.specs.Lists.{All, Rises}
 use Rattle.field.specs.Put.{spellAll}
-use Rattle.field.proofs.Sheet.{next, stops, Step, bind-got, pure-got}
-use Rattle.field.proofs.Read.{Reads, reads-bind, reads-checked, reads-pure, reads-rising}
-use Rattle.field.proofs.Spelt.{Spelt, spelt-none, spelt-join, rising-spelt}
+use Rattle.field.proofs.Sheet.{next, stops, bind-got, pure-got}
+use Rattle.field.proofs.Read.{Reads, reads-bind, reads-checked, reads-pure, reads-between}
+use Rattle.field.proofs.Spelt.{Spelt, spelt-none, spelt-join, between-spelt}
 
 unfoldable pub prefix : {A : Type 0} → List A → Out (List A) → Out (List A)
 prefix xs (got ys e) = got (xs ++ ys) e
@@ -55,10 +55,12 @@ module _ {A : Type 0} (p : Parser A) (s : List ℕ) where
   pub times-start : (n at : ℕ) → times n p s at ≡ prefix [] (times (n - 0) p s at)
   times-start n at = let e : n - 0 ≡ n = omega arith in rw e (prefix-none (times n p s at))
 
-  pub times-step : (n i at : ℕ) (xs : List A) {a : A} {e : ℕ} → i < n → p s at ≡ got a e → prefix xs (times (n - i) p s at) ≡ prefix (xs ++ (a ∷ [])) (times (n - (i + 1)) p s e)
+  pub times-step : (n i at : ℕ) (xs : List A) {a : A} {e : ℕ} → i < n → p s at ≡ got a e
+      → prefix xs (times (n - i) p s at) ≡ prefix (xs ++ (a ∷ [])) (times (n - (i + 1)) p s e)
   times-step n i at xs {a} {e} l h =
       let k : n - i ≡ suc (n - (i + 1)) = omega arith in
-      ap (λ (m : ℕ). prefix xs (times m p s at)) k ∙ ap (prefix xs) (times-more (n - (i + 1)) at h) ∙ prefix-one xs a (times (n - (i + 1)) p s e)
+      ap (λ (m : ℕ). prefix xs (times m p s at)) k ∙ ap (prefix xs) (times-more (n - (i + 1)) at h)
+      ∙ prefix-one xs a (times (n - (i + 1)) p s e)
 
   pub times-stop : (n i at : ℕ) (xs : List A) {m : ℕ} → i < n → p s at ≡ refused m → prefix xs (times (n - i) p s at) ≡ refused m
   unfolding times prefix
@@ -75,19 +77,23 @@ module _ {A : Type 0} (p : Parser A) (s : List ℕ) where
 -- ---- ascending, as a loop
 
 module _ (high : ℕ) (s : List ℕ) where
-  ascending-more : (k floor at : ℕ) {v e : ℕ} → rising floor high s at ≡ got v e → ascending (suc k) floor high s at ≡ prefix (v ∷ []) (ascending k (v + 1) high s e)
+  ascending-more : (k floor at : ℕ) {v e : ℕ} → rising floor high s at ≡ got v e
+      → ascending (suc k) floor high s at ≡ prefix (v ∷ []) (ascending k (v + 1) high s e)
   unfolding ascending
   ascending-more k floor at {v} {e} h = next (rising floor high) _ s at h ∙ before-list v (ascending k (v + 1) high) s e
 
   pub ascending-start : (n floor at : ℕ) → ascending n floor high s at ≡ prefix [] (ascending (n - 0) floor high s at)
   ascending-start n floor at = let e : n - 0 ≡ n = omega arith in rw e (prefix-none (ascending n floor high s at))
 
-  pub ascending-step : (n i floor at : ℕ) (xs : List ℕ) {v e : ℕ} → i < n → rising floor high s at ≡ got v e → prefix xs (ascending (n - i) floor high s at) ≡ prefix (xs ++ (v ∷ [])) (ascending (n - (i + 1)) (v + 1) high s e)
+  pub ascending-step : (n i floor at : ℕ) (xs : List ℕ) {v e : ℕ} → i < n → rising floor high s at ≡ got v e
+      → prefix xs (ascending (n - i) floor high s at) ≡ prefix (xs ++ (v ∷ [])) (ascending (n - (i + 1)) (v + 1) high s e)
   ascending-step n i floor at xs {v} {e} l h =
       let k : n - i ≡ suc (n - (i + 1)) = omega arith in
-      ap (λ (m : ℕ). prefix xs (ascending m floor high s at)) k ∙ ap (prefix xs) (ascending-more (n - (i + 1)) floor at h) ∙ prefix-one xs v (ascending (n - (i + 1)) (v + 1) high s e)
+      ap (λ (m : ℕ). prefix xs (ascending m floor high s at)) k ∙ ap (prefix xs) (ascending-more (n - (i + 1)) floor at h)
+      ∙ prefix-one xs v (ascending (n - (i + 1)) (v + 1) high s e)
 
-  pub ascending-stop : (n i floor at : ℕ) (xs : List ℕ) {m : ℕ} → i < n → rising floor high s at ≡ refused m → prefix xs (ascending (n - i) floor high s at) ≡ refused m
+  pub ascending-stop : (n i floor at : ℕ) (xs : List ℕ) {m : ℕ} → i < n → rising floor high s at ≡ refused m
+      → prefix xs (ascending (n - i) floor high s at) ≡ refused m
   unfolding ascending prefix
   ascending-stop n i floor at xs l h =
       let k : n - i ≡ suc (n - (i + 1)) = omega arith in
@@ -101,16 +107,19 @@ module _ (high : ℕ) (s : List ℕ) where
 
 -- ---- reading what was written
 
-pub reads-times : {A : Type 0} (p : Parser A) (spell : A → List ℕ) (P : A → Type 0) → ((a : A) → P a → Reads p (spell a) a) → (vs : List A) → All P vs → Reads (times (length vs) p) (spellAll spell vs) vs
+pub reads-times : {A : Type 0} (p : Parser A) (spell : A → List ℕ) (P : A → Type 0) → ((a : A) → P a → Reads p (spell a) a) → (vs : List A)
+    → All P vs → Reads (times (length vs) p) (spellAll spell vs) vs
 unfolding times spellAll All
 reads-times p spell P one [] h = reads-pure []
-reads-times p spell P one (a ∷ vs) h = reads-bind _ (one a (h .0)) (reads-checked _ (reads-times p spell P one vs (h .1)) (reads-pure (a ∷ vs)))
+reads-times p spell P one (a ∷ vs) h =
+    reads-bind _ (one a (h .0)) (reads-checked _ (reads-times p spell P one vs (h .1)) (reads-pure (a ∷ vs)))
 
-pub reads-ascending : (high : ℕ) → high < 2 ^ 32 → (floor : ℕ) (vs : List ℕ) → Rises floor high vs → Reads (ascending (length vs) floor high) (spellAll encode vs) vs
+pub reads-ascending : (high : ℕ) → high < 2 ^ 32 → (floor : ℕ) (vs : List ℕ) → Rises floor high vs
+    → Reads (ascending (length vs) floor high) (spellAll encode vs) vs
 unfolding ascending spellAll Rises
 reads-ascending high h floor [] r = reads-pure []
 reads-ascending high h floor (v ∷ vs) r =
-    reads-bind _ (reads-rising floor high v (r .0) (r .1) (omega (arith, r .1)))
+    reads-bind _ (reads-between floor high 8 6 v (r .0) (r .1) (omega (arith, r .1)))
     (reads-checked _ (reads-ascending high h (v + 1) vs (r .2)) (reads-pure (v ∷ vs)))
 
 -- ---- the bytes of what was read
@@ -118,30 +127,32 @@ reads-ascending high h floor (v ∷ vs) r =
 moved : {A : Type 0} (Q : List A → ℕ → Type 0) {vs ws : List A} {m e : ℕ} → vs ≡ ws → m ≡ e → Q vs m → Q ws e
 moved Q {vs} {ws} {m} {e} p q x = subst (λ z. Q z e) p (subst (λ k. Q vs k) q x)
 
-pub times-spelt : {A : Type 0} (p : Parser A) (spell : A → List ℕ) (P : A → Type 0) (s : List ℕ) → ((at : ℕ) (a : A) (e : ℕ) → p s at ≡ got a e → Spelt s at e (spell a) × P a) → (n at : ℕ) (vs : List A) (e : ℕ) → at ≤ length s → times n p s at ≡ got vs e → Spelt s at e (spellAll spell vs) × (length vs ≡ n) × All P vs
+pub times-spelt : {A : Type 0} (p : Parser A) (spell : A → List ℕ) (P : A → Type 0) (s : List ℕ)
+    → ((at : ℕ) (a : A) (e : ℕ) → p s at ≡ got a e → Spelt s at e (spell a) × P a)
+    → (n at : ℕ) (vs : List A) (e : ℕ) → at ≤ length s → times n p s at ≡ got vs e
+    → Spelt s at e (spellAll spell vs) × (length vs ≡ n) × All P vs
 unfolding times spellAll All
 times-spelt p spell P s one zero at vs e l h =
-    let q : ([] ≡ vs) × (at ≡ e) = pure-got [] vs s at e h in
-    rw (sym (q .0), sym (q .1)) (spelt-none s at l, refl, tt)
-times-spelt {A} p spell P s one (suc n) at vs e l h =
-    let w : Step (p s at) (λ a m. (times n p >>= λ rest. pure (a ∷ rest)) s m) vs e = bind-got p s at vs e (λ a. times n p >>= λ rest. pure (a ∷ rest)) h in
-    let u : Step (times n p s (w .mid)) (λ rest m. pure (w .found ∷ rest) s m) vs e = bind-got (times n p) s (w .mid) vs e (λ rest. pure (w .found ∷ rest)) (w .last) in
-    let q : (w .found ∷ u .found ≡ vs) × (u .mid ≡ e) = pure-got (w .found ∷ u .found) vs s (u .mid) e (u .last) in
-    let f : Spelt s at (w .mid) (spell (w .found)) × P (w .found) = one at (w .found) (w .mid) (w .first) in
-    let g : Spelt s (w .mid) (u .mid) (spellAll spell (u .found)) × (length (u .found) ≡ n) × All P (u .found) = times-spelt p spell P s one n (w .mid) (u .found) (u .mid) (f .0 .within) (u .first) in
+    let q = pure-got [] vs s at e h in rw (sym (q .0), sym (q .1)) (spelt-none s at l, refl, tt)
+times-spelt p spell P s one (suc n) at vs e l h =
+    let w = bind-got p s at vs e (λ a. times n p >>= λ rest. pure (a ∷ rest)) h in
+    let u = bind-got (times n p) s (w .mid) vs e (λ rest. pure (w .found ∷ rest)) (w .last) in
+    let q = pure-got (w .found ∷ u .found) vs s (u .mid) e (u .last) in
+    let f = one at (w .found) (w .mid) (w .first) in
+    let g = times-spelt p spell P s one n (w .mid) (u .found) (u .mid) (f .0 .within) (u .first) in
     moved (λ z k. Spelt s at k (spellAll spell z) × (length z ≡ suc n) × All P z) (q .0) (q .1)
     (spelt-join (f .0) (g .0), ap suc (g .1), (f .1, g .2))
 
-pub ascending-spelt : (high : ℕ) (s : List ℕ) → Bytes s → (n floor at : ℕ) (vs : List ℕ) (e : ℕ) → at ≤ length s → ascending n floor high s at ≡ got vs e → Spelt s at e (spellAll encode vs) × (length vs ≡ n) × Rises floor high vs
+pub ascending-spelt : (high : ℕ) (s : List ℕ) → Bytes s → (n floor at : ℕ) (vs : List ℕ) (e : ℕ) → at ≤ length s
+    → ascending n floor high s at ≡ got vs e → Spelt s at e (spellAll encode vs) × (length vs ≡ n) × Rises floor high vs
 unfolding ascending spellAll Rises
 ascending-spelt high s b zero floor at vs e l h =
-    let q : ([] ≡ vs) × (at ≡ e) = pure-got [] vs s at e h in
-    rw (sym (q .0), sym (q .1)) (spelt-none s at l, refl, tt)
+    let q = pure-got [] vs s at e h in rw (sym (q .0), sym (q .1)) (spelt-none s at l, refl, tt)
 ascending-spelt high s b (suc n) floor at vs e l h =
-    let w : Step (rising floor high s at) (λ v m. (ascending n (v + 1) high >>= λ rest. pure (v ∷ rest)) s m) vs e = bind-got (rising floor high) s at vs e (λ v. ascending n (v + 1) high >>= λ rest. pure (v ∷ rest)) h in
-    let u : Step (ascending n (w .found + 1) high s (w .mid)) (λ rest m. pure (w .found ∷ rest) s m) vs e = bind-got (ascending n (w .found + 1) high) s (w .mid) vs e (λ rest. pure (w .found ∷ rest)) (w .last) in
-    let q : (w .found ∷ u .found ≡ vs) × (u .mid ≡ e) = pure-got (w .found ∷ u .found) vs s (u .mid) e (u .last) in
-    let f : Spelt s at (w .mid) (encode (w .found)) × (w .found ≤ high) × (floor ≤ w .found) = rising-spelt s at (w .found) (w .mid) b floor high (w .first) in
-    let g : Spelt s (w .mid) (u .mid) (spellAll encode (u .found)) × (length (u .found) ≡ n) × Rises (w .found + 1) high (u .found) = ascending-spelt high s b n (w .found + 1) (w .mid) (u .found) (u .mid) (f .0 .within) (u .first) in
+    let w = bind-got (rising floor high) s at vs e (λ v. ascending n (v + 1) high >>= λ rest. pure (v ∷ rest)) h in
+    let u = bind-got (ascending n (w .found + 1) high) s (w .mid) vs e (λ rest. pure (w .found ∷ rest)) (w .last) in
+    let q = pure-got (w .found ∷ u .found) vs s (u .mid) e (u .last) in
+    let f = between-spelt s b at floor high 8 6 (w .first) in
+    let g = ascending-spelt high s b n (w .found + 1) (w .mid) (u .found) (u .mid) (f .0 .within) (u .first) in
     moved (λ z k. Spelt s at k (spellAll encode z) × (length z ≡ suc n) × Rises floor high z) (q .0) (q .1)
-    (spelt-join (f .0) (g .0), ap suc (g .1), (f .2, f .1, g .2))
+    (spelt-join (f .0) (g .0), ap suc (g .1), (f .1, f .2, g .2))

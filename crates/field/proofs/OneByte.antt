@@ -3,13 +3,12 @@
 --     number-byte     a byte below 128 is a number
 --     number-above    a number is above what its first byte is above
 use Prim.Native.Nat.{ℕ, zero, suc, _+_, _≤_, _<_}
-use mathlib.Core.Path.{_≡_, refl, sym, ap, _∙_}
+use mathlib.Core.Path.{_≡_, sym, ap, _∙_}
 use mathlib.Core.List.{List, [], _∷_}
 use native.Mathlib.Omega.{arith}
 use borrow.Author.Tests.{lt-ltb, eqb-false}
 use lib.ListN.{length, drop, getD, length-drop}
 use lib.Seq.{drop-cons}
-use Rattle.basics.specs.Choice.{pick}
 use Rattle.basics.proofs.Choice.{pick-true, pick-elim}
 use Rattle.number.specs.Decode.{Decoded, value, under, more, decode, refused as bad}
 use Rattle.number.proofs.Decode.{decode-none}

@@ -60,14 +60,16 @@ laid-none out at h =
     record { fit = omega arith; held = sym (take-append-drop at out); place = sym e }
 
 -- one field more
-pub laid-more : {out : List ℕ} {at : ℕ} {bs mid : List ℕ} {p : ℕ} {v next : ℕ} {after : List ℕ} → Laid out at bs mid p → PutOne v mid p next after → p + widthOf v ≤ length out → Laid out at (bs ++ encode v) after next
+pub laid-more : {out : List ℕ} {at : ℕ} {bs mid : List ℕ} {p : ℕ} {v next : ℕ} {after : List ℕ} → Laid out at bs mid p
+    → PutOne v mid p next after → p + widthOf v ≤ length out → Laid out at (bs ++ encode v) after next
 unfolding widthOf
 laid-more {out} {at} {bs} {mid} {p} {v} {next} {after} w f h =
     let same : length mid ≡ length out = ap length (w .held) ∙ paste-length out at bs (w .fit) in
     let r : PutOne v mid p (p + widthOf v) (paste mid p (encode v)) = put-room v mid p (omega (arith, same)) in
     record {
       fit = omega (arith, length-append bs (encode v), w .place);
-      held = f .held ∙ sym (r .held) ∙ ap (λ (k : ℕ). paste mid k (encode v)) (w .place) ∙ ap (λ (x : List ℕ). paste x (at + length bs) (encode v)) (w .held)
+      held = f .held ∙ sym (r .held) ∙ ap (λ (k : ℕ). paste mid k (encode v)) (w .place)
+          ∙ ap (λ (x : List ℕ). paste x (at + length bs) (encode v)) (w .held)
           ∙ paste-paste out at bs (encode v) (omega (arith, w .place));
       place = f .place ∙ sym (r .place) ∙ omega (arith, length-append bs (encode v), w .place);
     }
@@ -77,7 +79,8 @@ laid-more {out} {at} {bs} {mid} {p} {v} {next} {after} w f h =
 pub laid-length : {out : List ℕ} {at : ℕ} {bs after : List ℕ} {next : ℕ} → Laid out at bs after next → length after ≡ length out
 laid-length {out} {at} {bs} w = ap length (w .held) ∙ paste-length out at bs (w .fit)
 
-pub laid-join : {out : List ℕ} {at : ℕ} {bs mid : List ℕ} {p : ℕ} {cs after : List ℕ} {next : ℕ} → Laid out at bs mid p → Laid mid p cs after next → Laid out at (bs ++ cs) after next
+pub laid-join : {out : List ℕ} {at : ℕ} {bs mid : List ℕ} {p : ℕ} {cs after : List ℕ} {next : ℕ} → Laid out at bs mid p
+    → Laid mid p cs after next → Laid out at (bs ++ cs) after next
 laid-join {out} {at} {bs} {mid} {p} {cs} {after} {next} f g =
     let same : length mid ≡ length out = laid-length f in
     record {
@@ -87,18 +90,22 @@ laid-join {out} {at} {bs} {mid} {p} {cs} {after} {next} f g =
       place = omega (arith, g .place, f .place, length-append bs cs);
     }
 
-pub put-one : {v : ℕ} {out : List ℕ} {at next : ℕ} {after : List ℕ} → PutOne v out at next after → at + widthOf v ≤ length out → Laid out at (encode v) after next
+pub put-one : {v : ℕ} {out : List ℕ} {at next : ℕ} {after : List ℕ} → PutOne v out at next after → at + widthOf v ≤ length out
+    → Laid out at (encode v) after next
 put-one {v} {out} {at} f h = laid-more (laid-none out at (omega arith)) f h
 
 -- a field before what follows it
-pub put-then : {v : ℕ} {out : List ℕ} {at p : ℕ} {mid cs after : List ℕ} {next : ℕ} → PutOne v out at p mid → at + length (encode v ++ cs) ≤ length out → (p + length cs ≤ length mid → Laid mid p cs after next) → Laid out at (encode v ++ cs) after next
+pub put-then : {v : ℕ} {out : List ℕ} {at p : ℕ} {mid cs after : List ℕ} {next : ℕ} → PutOne v out at p mid
+    → at + length (encode v ++ cs) ≤ length out → (p + length cs ≤ length mid → Laid mid p cs after next)
+    → Laid out at (encode v ++ cs) after next
 unfolding widthOf
 put-then {v} {out} {at} {p} {mid} {cs} f h k =
     let w : Laid out at (encode v) mid p = put-one f (omega (arith, length-append (encode v) cs)) in
     laid-join w (k (omega (arith, length-append (encode v) cs, w .place, laid-length w)))
 
 -- three fields, one behind the other
-pub put-three : {a b c : ℕ} {out x y z : List ℕ} {at p q next : ℕ} → PutOne a out at p x → PutOne b x p q y → PutOne c y q next z → at + length (encode a ++ (encode b ++ encode c)) ≤ length out → Laid out at (encode a ++ (encode b ++ encode c)) z next
+pub put-three : {a b c : ℕ} {out x y z : List ℕ} {at p q next : ℕ} → PutOne a out at p x → PutOne b x p q y → PutOne c y q next z
+    → at + length (encode a ++ (encode b ++ encode c)) ≤ length out → Laid out at (encode a ++ (encode b ++ encode c)) z next
 unfolding widthOf
 put-three f g h l = put-then f l (λ m. put-then g m (λ k. put-one h k))
 
@@ -107,12 +114,14 @@ pub front-room : (bs cs out : List ℕ) → length (bs ++ cs) ≤ length out →
 front-room bs cs out h = omega (arith, length-append bs cs)
 
 -- a field behind what was written
-pub put-behind : {out : List ℕ} {bs mid : List ℕ} {p v next : ℕ} {after : List ℕ} → Laid out 0 bs mid p → PutOne v mid p next after → length (bs ++ encode v) ≤ length out → Laid out 0 (bs ++ encode v) after next
+pub put-behind : {out : List ℕ} {bs mid : List ℕ} {p v next : ℕ} {after : List ℕ} → Laid out 0 bs mid p → PutOne v mid p next after
+    → length (bs ++ encode v) ≤ length out → Laid out 0 (bs ++ encode v) after next
 unfolding widthOf
 put-behind {bs = bs} {v = v} w f h = laid-more w f (omega (arith, w .place, length-append bs (encode v)))
 
 -- the same under other names
-pub laid-as : {out : List ℕ} {at : ℕ} {bs after after′ : List ℕ} {next next′ : ℕ} → after′ ≡ after → next′ ≡ next → Laid out at bs after next → Laid out at bs after′ next′
+pub laid-as : {out : List ℕ} {at : ℕ} {bs after after′ : List ℕ} {next next′ : ℕ} → after′ ≡ after → next′ ≡ next
+    → Laid out at bs after next → Laid out at bs after′ next′
 laid-as e q w = record { fit = w .fit; held = e ∙ w .held; place = q ∙ w .place }
 
 -- one value more of a list has room where the whole list has
@@ -121,7 +130,8 @@ module _ {A : Type 0} (spell : A → List ℕ) (ms : List A) (i : ℕ) (z : A) (
   unfolding spellAll
   spell-split = ap (spellAll spell) (split-at ms i z l) ∙ spell-append spell (take i ms) (getD ms i z ∷ drop (suc i) ms)
 
-  pub spell-room : {out : List ℕ} {at p : ℕ} {mid : List ℕ} → Laid out at (spellAll spell (take i ms)) mid p → at + length (spellAll spell ms) ≤ length out → p + length (spell (getD ms i z)) ≤ length mid
+  pub spell-room : {out : List ℕ} {at p : ℕ} {mid : List ℕ} → Laid out at (spellAll spell (take i ms)) mid p
+      → at + length (spellAll spell ms) ≤ length out → p + length (spell (getD ms i z)) ≤ length mid
   spell-room {out} {at} {p} {mid} w h =
       omega (
         arith,

@@ -1,24 +1,30 @@
 -- Laws of the readers of a field: their answer in each case.
+--     told-got, told-refused          what an answer told
+--     number-past, number-of          any number
+--     tenancy-none, tenancy-due       the tenancy that is due
+--     between-got, between-above, between-under, between-stops     a bounded one
+--     kind-got, kind-other, kind-stops                             a kind
+--     end-here, end-extra             the end
 use mathlib.Core.Path.{_≡_, sym, ap, _∙_}
+use mathlib.Core.Bool.{true, false}
 use mathlib.Core.List.{List}
-use Prim.Native.Nat.{ℕ, _-_, _≤_, _<_}
+use Prim.Native.Nat.{ℕ, _-_, _≤_, _<_, max}
 use native.Mathlib.Omega.{arith}
-use borrow.Author.Tests.{eq-eqb, ne-eqb, lt-ltb, le-ltb, le-leb, lt-leb}
+use borrow.Author.Tests.{eq-eqb, ne-eqb, le-leb, lt-leb}
 use lib.ListN.{length, take, drop, length-drop}
-use Rattle.number.specs.Decode.{decode}
+use Rattle.basics.specs.Lists.{listed}
 use Rattle.basics.proofs.Buffer.{rest}
-use Rattle.number.proofs.Decode.{decode-none}
 use Rattle.basics.proofs.Choice.{pick-true, pick-false}
+use Rattle.number.specs.Decode.{decode}
+use Rattle.number.proofs.Decode.{decode-none}
 use Rattle.field.specs.Sheet.{Out, got, refused, pure}
 use Rattle.field.specs.declared.Field.{Field}
 use Rattle.field.specs.declared.Field.the-variants.{Got, Refused}
 use Rattle.field.specs.declared.Refusal.{Refusal}
 use Rattle.field.specs.Refusal.{numberOf}
 use Rattle.field.specs.Told.{told}
-use Rattle.field.specs.Field.{taken, number, exactly, tenancy, inside, rising, end}
+use Rattle.field.specs.Field.{taken, number, between, exactly, tenancy, kind, end}
 use Rattle.field.proofs.Sheet.{next, stops, pass, fail}
-
--- ---- what an answer told
 
 pub told-got : {f : Field} {o : Out ℕ} {v e : ℕ} → told f ≡ o → f ≡ Got v e → o ≡ got v e
 unfolding told
@@ -29,8 +35,6 @@ unfolding told
 told-refused h q = sym h ∙ ap told q
 
 module _ (s : List ℕ) (at : ℕ) where
-  -- ---- any number
-
   -- past the end no number is due any more
   pub number-past : length s < at → number s at ≡ refused 1
   unfolding number taken
@@ -41,71 +45,52 @@ module _ (s : List ℕ) (at : ℕ) where
   unfolding number
   number-of = ap (λ (x : List ℕ). taken at (decode x)) (sym (rest s at))
 
-  -- ---- the others, where a number stands there
+  -- ---- the tenancy that is due
 
-  module _ (v e : ℕ) (h : number s at ≡ got v e) where
-    pub exactly-got : (want n : ℕ) → v ≡ want → exactly want n s at ≡ got v e
-    unfolding exactly pure
-    exactly-got want n q = next number _ s at h ∙ pass n _ s e (eq-eqb v want q)
+  -- where none is due the range is empty
+  pub tenancy-none : (due : ℕ) → due ≡ 0 → between 1 0 5 5 s at ≡ tenancy due s at
+  tenancy-none due z =
+      ap (λ (low : ℕ). between low 0 5 5 s at) {x = 1} {y = max due 1} (omega arith)
+      ∙ ap (λ (high : ℕ). between (max due 1) high 5 5 s at) (sym z)
 
-    pub exactly-other : (want n : ℕ) → (v ≡ want → ⊥) → exactly want n s at ≡ refused n
-    unfolding exactly
-    exactly-other want n q = next number _ s at h ∙ fail n _ s e (ne-eqb v want q)
+  -- else it is that number alone
+  pub tenancy-due : (due : ℕ) → (due ≡ 0 → ⊥) → exactly due 5 s at ≡ tenancy due s at
+  tenancy-due due z = ap (λ (low : ℕ). between low due 5 5 s at) {x = due} {y = max due 1} (omega arith)
 
-    pub tenancy-got : (want : ℕ) → v ≡ want → 0 < v → tenancy want s at ≡ got v e
-    unfolding tenancy pure
-    tenancy-got want q l = next number _ s at h ∙ pass 5 _ s e (eq-eqb v want q) ∙ pass 5 _ s e (lt-ltb 0 v l)
+  -- ---- where a number stands there
 
-    pub tenancy-none : (want : ℕ) → v ≡ want → v ≤ 0 → tenancy want s at ≡ refused 5
-    unfolding tenancy
-    tenancy-none want q l = next number _ s at h ∙ pass 5 _ s e (eq-eqb v want q) ∙ fail 5 _ s e (le-ltb 0 v l)
+  module _ {v e : ℕ} (h : number s at ≡ got v e) where
+    module _ (low high under above : ℕ) where
+      pub between-got : low ≤ v → v ≤ high → between low high under above s at ≡ got v e
+      unfolding between pure
+      between-got l r = next number _ s at h ∙ pass above _ s e (le-leb v high r) ∙ pass under _ s e (le-leb low v l)
 
-    pub tenancy-other : (want : ℕ) → (v ≡ want → ⊥) → tenancy want s at ≡ refused 5
-    unfolding tenancy
-    tenancy-other want q = next number _ s at h ∙ fail 5 _ s e (ne-eqb v want q)
+      pub between-above : high < v → between low high under above s at ≡ refused above
+      unfolding between
+      between-above r = next number _ s at h ∙ fail above _ s e (lt-leb v high r)
 
-    pub inside-got : (low high : ℕ) → low ≤ v → v ≤ high → inside low high s at ≡ got v e
-    unfolding inside pure
-    inside-got low high l r = next number _ s at h ∙ pass 6 _ s e (le-leb low v l) ∙ pass 6 _ s e (le-leb v high r)
+      pub between-under : v ≤ high → v < low → between low high under above s at ≡ refused under
+      unfolding between
+      between-under r l = next number _ s at h ∙ pass above _ s e (le-leb v high r) ∙ fail under _ s e (lt-leb low v l)
 
-    pub inside-below : (low high : ℕ) → v < low → inside low high s at ≡ refused 6
-    unfolding inside
-    inside-below low high l = next number _ s at h ∙ fail 6 _ s e (lt-leb low v l)
+    pub kind-got : (kinds : List ℕ) → listed kinds v ≡ true → kind kinds s at ≡ got v e
+    unfolding kind pure
+    kind-got kinds t = next number _ s at h ∙ pass 3 _ s e t
 
-    pub inside-above : (low high : ℕ) → low ≤ v → high < v → inside low high s at ≡ refused 6
-    unfolding inside
-    inside-above low high l r = next number _ s at h ∙ pass 6 _ s e (le-leb low v l) ∙ fail 6 _ s e (lt-leb v high r)
+    pub kind-other : (kinds : List ℕ) → listed kinds v ≡ false → kind kinds s at ≡ refused 3
+    unfolding kind
+    kind-other kinds t = next number _ s at h ∙ fail 3 _ s e t
 
-    pub rising-got : (floor high : ℕ) → v ≤ high → floor ≤ v → rising floor high s at ≡ got v e
-    unfolding rising pure
-    rising-got floor high r l = next number _ s at h ∙ pass 6 _ s e (le-leb v high r) ∙ pass 8 _ s e (le-leb floor v l)
+  -- ---- where none does
 
-    pub rising-above : (floor high : ℕ) → high < v → rising floor high s at ≡ refused 6
-    unfolding rising
-    rising-above floor high r = next number _ s at h ∙ fail 6 _ s e (lt-leb v high r)
+  module _ {n : ℕ} (h : number s at ≡ refused n) where
+    pub between-stops : (low high under above : ℕ) → between low high under above s at ≡ refused n
+    unfolding between
+    between-stops low high under above = stops number _ s at h
 
-    pub rising-below : (floor high : ℕ) → v ≤ high → v < floor → rising floor high s at ≡ refused 8
-    unfolding rising
-    rising-below floor high r l = next number _ s at h ∙ pass 6 _ s e (le-leb v high r) ∙ fail 8 _ s e (lt-leb floor v l)
-
-  -- ---- the others, where none does
-
-  module _ (n : ℕ) (h : number s at ≡ refused n) where
-    pub exactly-stops : (want e : ℕ) → exactly want e s at ≡ refused n
-    unfolding exactly
-    exactly-stops want e = stops number _ s at h
-
-    pub tenancy-stops : (want : ℕ) → tenancy want s at ≡ refused n
-    unfolding tenancy
-    tenancy-stops want = stops number _ s at h
-
-    pub inside-stops : (low high : ℕ) → inside low high s at ≡ refused n
-    unfolding inside
-    inside-stops low high = stops number _ s at h
-
-    pub rising-stops : (floor high : ℕ) → rising floor high s at ≡ refused n
-    unfolding rising
-    rising-stops floor high = stops number _ s at h
+    pub kind-stops : (kinds : List ℕ) → kind kinds s at ≡ refused n
+    unfolding kind
+    kind-stops kinds = stops number _ s at h
 
   -- ---- the end
 

@@ -27,7 +27,7 @@ sent-refused e out = record { answer = refl; held = refl }
 
 -- it is longer than the buffer: refused with 11, and nothing has changed
 pub sent-long : (bs out : List ℕ) → length out < length bs → Sent (sheet bs) out (Refused NoRoom) out
-unfolding toldWritten answerTo leftBy numberOf
+unfolding toldWritten answerTo leftBy
 sent-long bs out h = record { answer = sym (pick-false _ _ (lt-leb _ _ h)); held = sym (pick-false _ _ (lt-leb _ _ h)) }
 
 -- it was written from the first byte on
@@ -39,7 +39,8 @@ sent-fits {bs} {out} {n} {after} w =
     record { answer = ap (got tt) e ∙ sym (pick-true _ _ (le-leb _ _ l)); held = w .held ∙ sym (pick-true _ _ (le-leb _ _ l)) }
 
 -- the buffer then begins with the sheet
-pub sent-bytes : (bs out : List ℕ) (n : ℕ) (after : List ℕ) → Sent (sheet bs) out (Length n) after → (n ≡ length bs) × (take n after ≡ bs) × (n ≤ length out)
+pub sent-bytes : (bs out : List ℕ) (n : ℕ) (after : List ℕ) → Sent (sheet bs) out (Length n) after → (n ≡ length bs)
+    × (take n after ≡ bs) × (n ≤ length out)
 unfolding toldWritten answerTo leftBy
 sent-bytes bs out n after w =
     by-cases (leb (length bs) (length out))
@@ -50,11 +51,13 @@ sent-bytes bs out n after w =
     (λ f. let a : got tt n ≡ refused 11 = w .answer ∙ pick-false _ _ f in absurd (let z : _≡_ {A = ℕ} 0 1 = cc in omega arith))
 
 -- why a sheet is not sent: it is longer than the buffer
-pub sent-not : (bs out : List ℕ) (e : Refusal) (after : List ℕ) → Sent (sheet bs) out (Refused e) after → (length out < length bs) × (numberOf e ≡ 11)
+pub sent-not : (bs out : List ℕ) (e : Refusal) (after : List ℕ) → Sent (sheet bs) out (Refused e) after
+    → (length out < length bs) × (numberOf e ≡ 11)
 unfolding toldWritten answerTo
 sent-not bs out e after w =
     by-cases (leb (length bs) (length out))
-    (λ t. absurd (let a : refused (numberOf e) ≡ got tt (length bs) = w .answer ∙ pick-true _ _ t in let z : _≡_ {A = ℕ} 0 1 = cc in omega arith))
+    (λ t. absurd (let a : refused (numberOf e) ≡ got tt (length bs) = w .answer ∙ pick-true _ _ t in
+    let z : _≡_ {A = ℕ} 0 1 = cc in omega arith))
     (λ f. let a : refused (numberOf e) ≡ refused 11 = w .answer ∙ pick-false _ _ f in (leb-false (length bs) (length out) f, cc))
 
 -- two answers that say the same are the same

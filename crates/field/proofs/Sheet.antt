@@ -79,7 +79,8 @@ require-got true n s at u e h = (refl, cc)
 require-got false n s at u e h = absurd (let z : _≡_ {A = ℕ} 0 1 = cc in omega arith)
 
 -- what stands behind a test that was passed
-pub passed : {B : Type 0} (b : Bool) (n : ℕ) (q : Parser B) (s : List ℕ) (at : ℕ) (x : B) (e : ℕ) → (require b n >> q) s at ≡ got x e → (b ≡ true) × (q s at ≡ got x e)
+pub passed : {B : Type 0} (b : Bool) (n : ℕ) (q : Parser B) (s : List ℕ) (at : ℕ) (x : B) (e : ℕ) → (require b n >> q) s at ≡ got x e
+    → (b ≡ true) × (q s at ≡ got x e)
 passed b n q s at x e h =
     let w : Step (require b n s at) (λ _ m. q s m) x e = after-got (require b n) s at x e q h in
     let g : (b ≡ true) × (w .mid ≡ at) = require-got b n s at (w .found) (w .mid) (w .first) in

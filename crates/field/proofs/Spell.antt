@@ -11,7 +11,8 @@ use Rattle.field.specs.Put.{spellAll}
 pub spell-append : {A : Type 0} (spell : A → List ℕ) (xs ys : List A) → spellAll spell (xs ++ ys) ≡ spellAll spell xs ++ spellAll spell ys
 unfolding spellAll
 spell-append spell [] ys = refl
-spell-append spell (x ∷ xs) ys = ap (λ (z : List ℕ). spell x ++ z) (spell-append spell xs ys) ∙ sym (append-assoc (spell x) (spellAll spell xs) (spellAll spell ys))
+spell-append spell (x ∷ xs) ys = ap (λ (z : List ℕ). spell x ++ z) (spell-append spell xs ys)
+    ∙ sym (append-assoc (spell x) (spellAll spell xs) (spellAll spell ys))
 
 -- one value more
 module _ {A : Type 0} (spell : A → List ℕ) (ms : List A) (i : ℕ) (z : A) (l : i < length ms) where
@@ -23,7 +24,8 @@ module _ {A : Type 0} (spell : A → List ℕ) (ms : List A) (i : ℕ) (z : A) (
       ∙ ap (spellAll spell) (sym (take-suc ms i z l) ∙ ap (λ (k : ℕ). take k ms) {x = suc i} {y = i + 1} (omega arith))
 
 -- so many bytes at the most for each value
-pub spell-bound : {A : Type 0} (spell : A → List ℕ) (k : ℕ) → ((v : A) → length (spell v) ≤ k) → (xs : List A) → length (spellAll spell xs) ≤ k * length xs
+pub spell-bound : {A : Type 0} (spell : A → List ℕ) (k : ℕ) → ((v : A) → length (spell v) ≤ k) → (xs : List A)
+    → length (spellAll spell xs) ≤ k * length xs
 unfolding spellAll
 spell-bound spell k h [] = omega arith
 spell-bound spell k h (x ∷ xs) = omega (arith, length-append (spell x) (spellAll spell xs), h x, spell-bound spell k h xs)

@@ -1,26 +1,24 @@
 -- Writing after reading: the bytes of what a reader accepted.
 --     Spelt s at e bs      from `at` to `e` the sheet has these bytes
 --     spelt-none, spelt-join, spelt-whole      no field, field after field, a whole sheet
---     number-spelt, exactly-spelt, tenancy-spelt, inside-spelt, rising-spelt     one field, and what is known of its value
+--     number-spelt, between-spelt, kind-spelt     one field, and what is known of its value
 use mathlib.Core.Path.{_≡_, refl, sym, ap, _∙_}
 use mathlib.Core.Bool.{true}
 use mathlib.Core.List.{List, [], _++_, append-assoc, append-nil}
 use Prim.Native.Nat.{ℕ, _+_, _^_, _≤_, _<_}
 use native.Mathlib.Omega.{arith}
-use borrow.Author.Tests.{eqb-true, leb-true, ltb-true}
-use lib.Dec.{eqb, leb, ltb}
 use lib.ListN.{length, drop, length-append, length-drop}
 use lib.Seq.{drop-drop, drop-length}
+use Rattle.basics.specs.Lists.{listed}
 use Rattle.number.specs.Bytes.{Bytes}
-use Rattle.number.specs.Decode.{Decoded, value, decode}
-use Rattle.number.specs.Decode.{refused as bad}
+use Rattle.number.specs.Decode.{Decoded, value, decode, refused as bad}
 use Rattle.number.specs.Encode.{encode, widthOf}
 use Rattle.number.proofs.Encode.{width-bounds}
 use Rattle.number.proofs.Part.{drop-bytes}
-use Rattle.number.proofs.RoundTrip.{Begins, decode-exact}
+use Rattle.number.proofs.RoundTrip.{decode-exact}
 use Rattle.field.specs.Sheet.{got}
-use Rattle.field.specs.Field.{taken, number, exactly, tenancy, inside, rising}
-use Rattle.field.proofs.Values.{one-test, two-tests}
+use Rattle.field.specs.Field.{taken, number, between, kind}
+use Rattle.field.proofs.Values.{between-within, kind-within}
 
 pub record Spelt (s : List ℕ) (at e : ℕ) (bs : List ℕ) : Type 0 where
   pub within : e ≤ length s
@@ -49,9 +47,9 @@ decoded s at v e (bad m) h = absurd (let z : _≡_ {A = ℕ} 0 1 = cc in omega a
 pub number-spelt : (s : List ℕ) (at v e : ℕ) → Bytes s → number s at ≡ got v e → Spelt s at e (encode v) × (v < 2 ^ 32)
 unfolding number widthOf
 number-spelt s at v e b h =
-    let d : (n : ℕ) × (decode (drop at s) ≡ value v n) × (e ≡ at + n) = decoded s at v e (decode (drop at s)) h in
-    let x : Begins (drop at s) (d .0) (encode v) × (v < 2 ^ 32) = decode-exact (drop at s) v (d .0) (drop-bytes s at b) (d .1) in
-    let long : length (drop at s) ≡ length (encode v) + length (drop (d .0) (drop at s)) = ap length (x .0 .bytes) ∙ length-append (encode v) (drop (d .0) (drop at s)) in (
+    let d = decoded s at v e (decode (drop at s)) h in
+    let x = decode-exact (drop at s) v (d .0) (drop-bytes s at b) (d .1) in
+    let long = ap length (x .0 .bytes) ∙ length-append (encode v) (drop (d .0) (drop at s)) in (
       record {
         within = omega (arith, d .2, x .0 .count, long, length-drop at s, width-bounds v);
         place = omega (arith, d .2, x .0 .count);
@@ -62,30 +60,14 @@ number-spelt s at v e b h =
 
 -- ---- a number that passed its checks
 
-module _ (s : List ℕ) (at v e : ℕ) (b : Bytes s) where
-  pub exactly-spelt : (want n : ℕ) → exactly want n s at ≡ got v e → Spelt s at e (encode v) × (v ≡ want)
-  unfolding exactly
-  exactly-spelt want n h =
-      let w : (number s at ≡ got v e) × (eqb v want ≡ true) = one-test (λ x. eqb x want) n s at v e h in
-      (number-spelt s at v e b (w .0) .0, eqb-true v want (w .1))
+module _ (s : List ℕ) (b : Bytes s) (at : ℕ) {v e : ℕ} where
+  pub between-spelt : (low high under above : ℕ) → between low high under above s at ≡ got v e
+      → Spelt s at e (encode v) × (low ≤ v) × (v ≤ high)
+  between-spelt low high under above h =
+      let w = between-within low high under above s at h in (number-spelt s at v e b (w .0) .0, w .1, w .2)
 
-  pub tenancy-spelt : (want : ℕ) → tenancy want s at ≡ got v e → Spelt s at e (encode v) × (v ≡ want) × (0 < v)
-  unfolding tenancy
-  tenancy-spelt want h =
-      let w : (number s at ≡ got v e) × (eqb v want ≡ true) × (ltb 0 v ≡ true) = two-tests (λ x. eqb x want) (λ x. ltb 0 x) 5 5 s at v e h in
-      (number-spelt s at v e b (w .0) .0, eqb-true v want (w .1), ltb-true 0 v (w .2))
-
-  pub inside-spelt : (low high : ℕ) → inside low high s at ≡ got v e → Spelt s at e (encode v) × (low ≤ v) × (v ≤ high)
-  unfolding inside
-  inside-spelt low high h =
-      let w : (number s at ≡ got v e) × (leb low v ≡ true) × (leb v high ≡ true) = two-tests (λ x. leb low x) (λ x. leb x high) 6 6 s at v e h in
-      (number-spelt s at v e b (w .0) .0, leb-true low v (w .1), leb-true v high (w .2))
-
-  pub rising-spelt : (floor high : ℕ) → rising floor high s at ≡ got v e → Spelt s at e (encode v) × (v ≤ high) × (floor ≤ v)
-  unfolding rising
-  rising-spelt floor high h =
-      let w : (number s at ≡ got v e) × (leb v high ≡ true) × (leb floor v ≡ true) = two-tests (λ x. leb x high) (λ x. leb floor x) 6 8 s at v e h in
-      (number-spelt s at v e b (w .0) .0, leb-true v high (w .1), leb-true floor v (w .2))
+  pub kind-spelt : (kinds : List ℕ) → kind kinds s at ≡ got v e → Spelt s at e (encode v) × (listed kinds v ≡ true)
+  kind-spelt kinds h = let w = kind-within kinds s at h in (number-spelt s at v e b (w .0) .0, w .1)
 
 -- ---- a whole sheet
 

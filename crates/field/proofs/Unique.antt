@@ -7,7 +7,8 @@ use Rattle.basics.specs.Choice.{pick}
 use Rattle.field.specs.declared.Field.{Field}
 use Rattle.field.specs.declared.Field.the-variants.{Got, Refused}
 use Rattle.field.specs.declared.Refusal.{Refusal}
-use Rattle.field.specs.declared.Refusal.the-variants.{SheetEnds, BadNumber, WrongKind, WrongUnit, WrongTenancy, OutOfRange, NoCopy, NotRising, BytesFollow, NoSettings, NoRoom, Rented, NotAbove, NotTheTenant}
+use Rattle.field.specs.declared.Refusal.the-variants.{SheetEnds, BadNumber, WrongKind, WrongUnit, WrongTenancy, OutOfRange, NoCopy}
+use Rattle.field.specs.declared.Refusal.the-variants.{NotRising, BytesFollow, NoSettings, NoRoom, Rented, NotAbove, NotTheTenant}
 use Rattle.field.specs.Put.{PutOne, Laid}
 use Rattle.field.specs.Refusal.{numberOf}
 use Rattle.field.specs.Sheet.{Out}
@@ -32,7 +33,7 @@ named n =
     NotTheTenant))))))))))))
 
 named-number : (r : Refusal) → named (numberOf r) ≡ r
-unfolding named numberOf pick
+unfolding named pick
 named-number SheetEnds = refl
 named-number BadNumber = refl
 named-number WrongKind = refl
@@ -73,5 +74,6 @@ pub number-unique : (e : Refusal) (n m : ℕ) → n ≡ numberOf e → m ≡ num
 number-unique e n m p q = p ∙ sym q
 
 -- `put_opening`: the place and the buffer
-pub written-unique : (out : List ℕ) (at : ℕ) (bs : List ℕ) (n m : ℕ) (x y : List ℕ) → Laid out at bs x n → Laid out at bs y m → (n ≡ m) × (x ≡ y)
-written-unique out at bs n m x y p q = (p .place ∙ sym (q .place), p .held ∙ sym (q .held))
+pub laid-unique : (out : List ℕ) (at : ℕ) (bs : List ℕ) (n m : ℕ) (x y : List ℕ) → Laid out at bs x n
+    → Laid out at bs y m → (n ≡ m) × (x ≡ y)
+laid-unique out at bs n m x y p q = (p .place ∙ sym (q .place), p .held ∙ sym (q .held))

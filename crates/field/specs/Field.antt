@@ -1,18 +1,22 @@
--- What every sheet is made of.
+-- What every sheet is made of. A reader of a number is told its refusals and judges the number at its own place.
 --     number     any number
---     exactly    a number that must be the given one, or is refused with the given refusal
---     tenancy    the number of a tenancy: no tenancy is 0
---     inside     a number within a range, or 6
+--     between    a number from one to another, with the refusals of one below and of one above
+--     exactly    the given number, or the refusal
+--     inside     a number within a range, or the refusal
 --     rising     a number up to the last of its range, or 6; not below the first that rises, or 8
---     ascending      so many numbers, each above the one before it
---     opening    kind, unit and tenancy, with which every sheet opens: another kind is 3, another unit 4
+--     tenancy    the tenancy that is due, or 5: no tenancy is 0, so where 0 is due every number is refused
+--     ascending  so many numbers, each above the one before it
+--     kind       one of the kinds that a call takes, or 3
+--     addressed  the unit, or 4, and the tenancy that a sheet is for
+--     opening    kind, unit and tenancy, with which every sheet opens: the kind
 --     end        the end of the sheet, or 9
 --     whole      all fields of a sheet, and then its end
-use Prim.Native.Nat.{ℕ, zero, suc, _+_}
+use Prim.Native.Nat.{ℕ, zero, suc, _+_, max}
 use mathlib.Core.List.{List, [], _∷_}
 use lib.ListN.{length, drop}
-use lib.Dec.{eqb, leb, ltb}
+use lib.Dec.{eqb, leb}
 use Rattle.basics.specs.Choice.{pick}
+use Rattle.basics.specs.Lists.{listed}
 use Rattle.number.specs.Decode.{Decoded, value, decode, refused as bad}
 use Rattle.field.specs.Sheet.{Out, got, refused, Parser, _>>=_, _>>_, pure, require}
 
@@ -24,32 +28,24 @@ taken at (bad e) = refused e
 unfoldable pub number : Parser ℕ
 number s at = taken at (decode (drop at s))
 
-unfoldable pub exactly : ℕ → ℕ → Parser ℕ
-exactly want e = do
+unfoldable pub between : ℕ → ℕ → ℕ → ℕ → Parser ℕ
+between low high under above = do
   v ← number
-  require (eqb v want) e
+  require (leb v high) above
+  require (leb low v) under
   pure v
 
-unfoldable pub tenancy : ℕ → Parser ℕ
-tenancy want = do
-  v ← number
-  require (eqb v want) 5
-  require (ltb 0 v) 5
-  pure v
+abbrev pub exactly : ℕ → ℕ → Parser ℕ
+exactly want e = between want want e e
 
-unfoldable pub inside : ℕ → ℕ → Parser ℕ
-inside low high = do
-  v ← number
-  require (leb low v) 6
-  require (leb v high) 6
-  pure v
+abbrev pub inside : ℕ → ℕ → ℕ → Parser ℕ
+inside low high e = between low high e e
 
-unfoldable pub rising : ℕ → ℕ → Parser ℕ
-rising floor high = do
-  v ← number
-  require (leb v high) 6
-  require (leb floor v) 8
-  pure v
+abbrev pub rising : ℕ → ℕ → Parser ℕ
+rising floor high = between floor high 8 6
+
+abbrev pub tenancy : ℕ → Parser ℕ
+tenancy due = between (max due 1) due 5 5
 
 unfoldable pub ascending : ℕ → ℕ → ℕ → Parser (List ℕ)
 ascending zero floor high = pure []
@@ -58,11 +54,22 @@ ascending (suc n) floor high = do
   vs ← ascending n (v + 1) high
   pure (v ∷ vs)
 
-unfoldable pub opening : ℕ → ℕ → ℕ → Parser ℕ
-opening kind unit t = do
-  exactly kind 3
+unfoldable pub kind : List ℕ → Parser ℕ
+kind kinds = do
+  k ← number
+  require (listed kinds k) 3
+  pure k
+
+unfoldable pub addressed : ℕ → ℕ → Parser ℕ
+addressed unit due = do
   exactly unit 4
-  tenancy t
+  tenancy due
+
+unfoldable pub opening : List ℕ → ℕ → ℕ → Parser ℕ
+opening kinds unit due = do
+  k ← kind kinds
+  addressed unit due
+  pure k
 
 unfoldable pub end : Parser ℕ
 end s at = pick (eqb at (length s)) (got 0 at) (refused 9)

@@ -3,7 +3,10 @@ use number::Number;
 ghost use mathlib.Core.Path.{_≡_};
 ghost use Prim.Native.Nat.{_≤_};
 ghost use lib.ListN.{length};
-ghost use Rattle.field.specs.Field.{number, exactly, tenancy, inside, rising, opening, end};
+ghost use Rattle.field.specs.Field.{number as numberAt, between as betweenOf, tenancy as tenancyOf, kind as kindOf};
+ghost use Rattle.field.specs.Field.{addressed as addressedOf, opening as openingOf, end as endOf};
+ghost use Rattle.field.specs.Field.{exactly as exactlyOf, inside as insideOf, rising as risingOf};
+ghost use Rattle.basics.specs.Lists.{listed};
 ghost use Rattle.field.specs.Put.{openingBytes, PutOne, Laid};
 ghost use Rattle.field.specs.Refusal.{numberOf};
 ghost use Rattle.field.specs.Told.{told};
@@ -46,6 +49,12 @@ pub enum Field {
     Refused(Refusal),
 }
 
+// What is answered to a sheet or a call that changes a unit.
+pub enum Verdict {
+    Accepted,
+    Refused(Refusal),
+}
+
 // What a writer of sheets answers: the length written, or the refusal.
 pub enum Written {
     Length(usize),
@@ -74,9 +83,9 @@ pub fn number_of(e: Refusal) -> u32
     }
 }
 
-// A number at a place.
-pub fn any(s: &[u8], at: usize) -> Field
-    ensures { λ r. ⌜ told r ≡ number (now (s .entry)) at ⌝ }
+// Any number at a place.
+pub fn number(s: &[u8], at: usize) -> Field
+    ensures { λ r. ⌜ told r ≡ numberAt (now (s .entry)) at ⌝ }
 {
     if s.len() < at {
         return Field::Refused(Refusal::SheetEnds);
@@ -88,82 +97,102 @@ pub fn any(s: &[u8], at: usize) -> Field
     }
 }
 
-// A number that must be the given one, or is refused with the given refusal.
-pub fn exact(s: &[u8], at: usize, want: u32, refusal: Refusal) -> Field
-    ensures { λ r. ⌜ told r ≡ exactly want (numberOf refusal) (now (s .entry)) at ⌝ }
+// A number from `low` to `high`, told what to refuse it with where it is above, and where it is below.
+pub fn between(s: &[u8], at: usize, low: u32, high: u32, under: Refusal, above: Refusal) -> Field
+    ensures { λ r. ⌜ told r ≡ betweenOf low high (numberOf under) (numberOf above) (now (s .entry)) at ⌝ }
 {
-    match any(s, at) {
+    match number(s, at) {
         Field::Got(v, next) => {
-            if v == want {
-                Field::Got(v, next)
-            } else {
-                Field::Refused(refusal)
+            if high < v {
+                return Field::Refused(above);
             }
+            if v < low {
+                return Field::Refused(under);
+            }
+            Field::Got(v, next)
         }
         Field::Refused(e) => Field::Refused(e),
     }
 }
 
-// A tenancy's number that must be the given one; where 0 is expected every number is refused.
-pub fn tenant(s: &[u8], at: usize, want: u32) -> Field
-    ensures { λ r. ⌜ told r ≡ tenancy want (now (s .entry)) at ⌝ }
+// A number that must be the given one.
+pub fn exactly(s: &[u8], at: usize, want: u32, refusal: Refusal) -> Field
+    ensures { λ r. ⌜ told r ≡ exactlyOf want (numberOf refusal) (now (s .entry)) at ⌝ }
 {
-    match any(s, at) {
-        Field::Got(v, next) => {
-            if v == want {
-                if 0 < v {
-                    return Field::Got(v, next);
-                }
-            }
-            Field::Refused(Refusal::WrongTenancy)
-        }
-        Field::Refused(e) => Field::Refused(e),
-    }
+    between(s, at, want, want, refusal, refusal)
 }
 
 // A number within a range.
-pub fn ranged(s: &[u8], at: usize, low: u32, high: u32) -> Field
-    ensures { λ r. ⌜ told r ≡ inside low high (now (s .entry)) at ⌝ }
+pub fn inside(s: &[u8], at: usize, low: u32, high: u32, refusal: Refusal) -> Field
+    ensures { λ r. ⌜ told r ≡ insideOf low high (numberOf refusal) (now (s .entry)) at ⌝ }
 {
-    match any(s, at) {
-        Field::Got(v, next) => {
-            if v < low {
-                return Field::Refused(Refusal::OutOfRange);
-            }
-            if high < v {
-                return Field::Refused(Refusal::OutOfRange);
-            }
-            Field::Got(v, next)
-        }
-        Field::Refused(e) => Field::Refused(e),
-    }
+    between(s, at, low, high, refusal, refusal)
 }
 
 // A number up to the last of its range that is not below the first that rises.
-pub fn risen(s: &[u8], at: usize, floor: u32, high: u32) -> Field
-    ensures { λ r. ⌜ told r ≡ rising floor high (now (s .entry)) at ⌝ }
+pub fn rising(s: &[u8], at: usize, floor: u32, high: u32) -> Field
+    ensures { λ r. ⌜ told r ≡ risingOf floor high (now (s .entry)) at ⌝ }
 {
-    match any(s, at) {
-        Field::Got(v, next) => {
-            if high < v {
-                return Field::Refused(Refusal::OutOfRange);
+    between(s, at, floor, high, Refusal::NotRising, Refusal::OutOfRange)
+}
+
+// The tenancy that is due; where none is, every number is refused.
+pub fn tenancy(s: &[u8], at: usize, due: u32) -> Field
+    ensures { λ r. ⌜ told r ≡ tenancyOf due (now (s .entry)) at ⌝ }
+{
+    if due == 0 {
+        return between(s, at, 1, 0, Refusal::WrongTenancy, Refusal::WrongTenancy);
+    }
+    exactly(s, at, due, Refusal::WrongTenancy)
+}
+
+// Whether a number is on a list.
+fn among(list: &[u32], k: u32) -> bool
+    ensures { λ r. ⌜ r ≡ listed (now (list .entry)) k ⌝ }
+{
+    let mut i = 0;
+    while i < list.len() {
+        if list[i] == k {
+            return true;
+        }
+        i = i + 1;
+    }
+    false
+}
+
+// The kind of a sheet, out of the kinds that a call takes.
+pub fn kind(s: &[u8], kinds: &[u32]) -> Field
+    ensures { λ r. ⌜ told r ≡ kindOf (now (kinds .entry)) (now (s .entry)) 0 ⌝ }
+{
+    match number(s, 0) {
+        Field::Got(k, next) => {
+            if among(kinds, k) {
+                Field::Got(k, next)
+            } else {
+                Field::Refused(Refusal::WrongKind)
             }
-            if v < floor {
-                return Field::Refused(Refusal::NotRising);
-            }
-            Field::Got(v, next)
         }
         Field::Refused(e) => Field::Refused(e),
     }
 }
 
-// Kind, unit and tenancy, with which every sheet opens.
-pub fn opening(s: &[u8], kind: u32, unit: u32, tenancy: u32) -> Field
-    ensures { λ r. ⌜ told r ≡ opening kind unit tenancy (now (s .entry)) 0 ⌝ }
+// The unit and the tenancy that a sheet is for.
+pub fn addressed(s: &[u8], at: usize, unit: u32, due: u32) -> Field
+    ensures { λ r. ⌜ told r ≡ addressedOf unit due (now (s .entry)) at ⌝ }
 {
-    match exact(s, 0, kind, Refusal::WrongKind) {
-        Field::Got(_, at) => match exact(s, at, unit, Refusal::WrongUnit) {
-            Field::Got(_, next) => tenant(s, next, tenancy),
+    match exactly(s, at, unit, Refusal::WrongUnit) {
+        Field::Got(_, next) => tenancy(s, next, due),
+        Field::Refused(e) => Field::Refused(e),
+    }
+}
+
+// Kind, unit and tenancy, with which every sheet opens: the kind.
+pub fn opening(s: &[u8], kinds: &[u32], unit: u32, due: u32) -> Field
+    ensures { λ r. ⌜ told r ≡ openingOf (now (kinds .entry)) unit due (now (s .entry)) 0 ⌝ }
+{
+    match kind(s, kinds) {
+        Field::Got(k, at) => match addressed(s, at, unit, due) {
+            Field::Got(_, next) => Field::Got(k, next),
             Field::Refused(e) => Field::Refused(e),
         },
         Field::Refused(e) => Field::Refused(e),
@@ -171,8 +200,8 @@ pub fn opening(s: &[u8], kind: u32, unit: u32, tenancy: u32) -> Field
 }
 
 // The end of the sheet.
-pub fn finish(s: &[u8], at: usize) -> Field
-    ensures { λ r. ⌜ told r ≡ end (now (s .entry)) at ⌝ }
+pub fn end(s: &[u8], at: usize) -> Field
+    ensures { λ r. ⌜ told r ≡ endOf (now (s .entry)) at ⌝ }
 {
     if at == s.len() {
         Field::Got(0, at)

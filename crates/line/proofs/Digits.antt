@@ -36,7 +36,8 @@ decimal-one v h = sym (pick-true _ _ (lt-ltb v 10 h) ∙ ap (λ (d : ℕ). d ∷
 pub decimal-more : (v : ℕ) → 10 ≤ v → v < 2 ^ 32 → decimal (v / 10) ++ ((48 + v % 10) ∷ []) ≡ decimal v
 unfolding decimal digitsBy
 decimal-more v h l =
-    sym (pick-false _ _ (le-ltb v 10 h) ∙ ap (λ (r : List ℕ). r ++ (digit (v % 10) ∷ [])) (sym (enough 8 (v / 10) (omega arith))) ∙ ap (λ (d : ℕ). digitsBy 9 (v / 10) ++ (d ∷ [])) (digit-low (v % 10) (omega arith)))
+    sym (pick-false _ _ (le-ltb v 10 h) ∙ ap (λ (r : List ℕ). r ++ (digit (v % 10) ∷ [])) (sym (enough 8 (v / 10) (omega arith)))
+    ∙ ap (λ (d : ℕ). digitsBy 9 (v / 10) ++ (d ∷ [])) (digit-low (v % 10) (omega arith)))
 
 digits-bound : (k v : ℕ) → length (digitsBy k v) ≤ suc k
 unfolding digitsBy

@@ -7,14 +7,15 @@ use native.Mathlib.Omega.{arith}
 use borrow.Author.Tests.{le-leb, lt-leb}
 use lib.Dec.{leb}
 use lib.ListN.{length, length-append}
+use Rattle.basics.specs.Limits.{blocksMost}
 use Rattle.basics.proofs.Choice.{pick-true, pick-false}
 use Rattle.basics.proofs.Tests.{and-both, first-false, second-false}
 use Rattle.field.specs.Put.{spellAll}
 use Rattle.field.proofs.Spell.{spell-bound}
 use Rattle.plan.specs.Plan.{Plan}
 use Rattle.plan.specs.Draft.{counted}
-use Rattle.line.specs.Text.{spaced, pair, hex}
-use Rattle.line.specs.Line.{feed, word-plan, bar, planText, planLine, sheetLine}
+use Rattle.line.specs.Text.{ascii, spaced, pair, hex}
+use Rattle.line.specs.Line.{lineMost, sheetMost, feed, word-plan, bar, planText, planLine, sheetLine}
 use Rattle.line.specs.Printed.{Printed, Adds}
 use Rattle.line.proofs.Adding.{adds-line, adds-join, no-line}
 use Rattle.line.proofs.Digits.{spaced-bound}
@@ -26,14 +27,18 @@ printed-same {xs} {ys} {out} {after} {n} e p = subst (λ (z : List ℕ). Printed
 -- ---- words
 
 -- a word alone
-pub said-word : {line out after : List ℕ} {n : ℕ} (word : List ℕ) → line ≡ word ++ feed → length word ≤ 8 → length out ≡ 24576 → Adds (word ++ feed) out 0 after n → Printed line out n after
+pub said-word : {line out after : List ℕ} {n : ℕ} (word : List ℕ) → line ≡ word ++ feed → length word ≤ 8 → length out ≡ lineMost
+    → Adds (word ++ feed) out 0 after n → Printed line out n after
 unfolding feed
 said-word word e l m a = printed-same (sym e) (adds-line a (omega (arith, length-append word (10 ∷ []))))
 
 -- a word and a number
-pub said-number : {line out after : List ℕ} {n : ℕ} (word : List ℕ) (v : ℕ) → line ≡ word ++ (spaced v ++ feed) → length word ≤ 8 → length out ≡ 24576 → Adds (word ++ (spaced v ++ feed)) out 0 after n → Printed line out n after
+pub said-number : {line out after : List ℕ} {n : ℕ} (word : List ℕ) (v : ℕ) → line ≡ word ++ (spaced v ++ feed) → length word ≤ 8
+    → length out ≡ lineMost → Adds (word ++ (spaced v ++ feed)) out 0 after n → Printed line out n after
 unfolding feed
-said-number word v e l m a = printed-same (sym e) (adds-line a (omega (arith, length-append word (spaced v ++ (10 ∷ [])), length-append (spaced v) (10 ∷ []), spaced-bound v)))
+said-number word v e l m a =
+    printed-same (sym e)
+    (adds-line a (omega (arith, length-append word (spaced v ++ (10 ∷ [])), length-append (spaced v) (10 ∷ []), spaced-bound v)))
 
 -- ---- a plan
 
@@ -43,13 +48,13 @@ module _ (unit t : ℕ) (p : Plan) (out : List ℕ) where
   no-plan h = printed-same (sym (pick-false (planText unit t p) [] h)) (no-line out)
 
   -- too many blocks, or too large a short set
-  pub many-disks : 1024 < length (p .disks) → Printed (planLine unit t p) out 0 out
+  pub many-disks : blocksMost < length (p .disks) → Printed (planLine unit t p) out 0 out
   unfolding counted
   many-disks h = no-plan (first-false _ (lt-leb _ _ h))
 
-  pub many-blocks : 1024 < length (p .short) → Printed (planLine unit t p) out 0 out
+  pub many-blocks : blocksMost < length (p .short) → Printed (planLine unit t p) out 0 out
   unfolding counted
-  many-blocks h = no-plan (second-false (leb (length (p .disks)) 1024) (lt-leb _ _ h))
+  many-blocks h = no-plan (second-false (leb (length (p .disks)) blocksMost) (lt-leb _ _ h))
 
   -- the fields, and then the lists
   head : List ℕ
@@ -62,23 +67,31 @@ module _ (unit t : ℕ) (p : Plan) (out : List ℕ) where
   unfolding head word-plan
   head-bound =
       let fields : List ℕ = spellAll spaced (unit ∷ t ∷ length (p .disks) ∷ p .time ∷ []) in
-      omega (arith, length-append (112 ∷ 108 ∷ 97 ∷ 110 ∷ []) fields, spell-bound spaced 11 spaced-bound (unit ∷ t ∷ length (p .disks) ∷ p .time ∷ []))
+      omega (arith, length-append (ascii "plan") fields, spell-bound spaced 11 spaced-bound (unit ∷ t ∷ length (p .disks) ∷ p .time ∷ []))
 
-  module _ (k : length (p .disks) ≤ 1024) (l : length (p .short) ≤ 1024) where
+  module _ (k : length (p .disks) ≤ blocksMost) (l : length (p .short) ≤ blocksMost) where
     lists-bound : length lists ≤ 22533
     unfolding lists bar feed
     lists-bound =
         let ds : List ℕ = spellAll spaced (p .disks) in
         let bs : List ℕ = spellAll spaced (p .short) in
-        omega (arith, length-append ds (32 ∷ 124 ∷ (bs ++ (10 ∷ []))), length-append bs (10 ∷ []), spell-bound spaced 11 spaced-bound (p .disks), spell-bound spaced 11 spaced-bound (p .short))
+        omega (
+          arith,
+          length-append ds (32 ∷ 124 ∷ (bs ++ (10 ∷ []))),
+          length-append bs (10 ∷ []),
+          spell-bound spaced 11 spaced-bound
+              (p .disks),
+          spell-bound spaced 11 spaced-bound (p .short),
+        )
 
     chosen : head ++ lists ≡ planLine unit t p
     unfolding planLine counted planText head lists
     chosen =
-        append-assoc word-plan (spellAll spaced (unit ∷ t ∷ length (p .disks) ∷ p .time ∷ [])) (bar ++ (spellAll spaced (p .disks) ++ (bar ++ (spellAll spaced (p .short) ++ feed))))
+        append-assoc word-plan (spellAll spaced (unit ∷ t ∷ length (p .disks) ∷ p .time ∷ []))
+        (bar ++ (spellAll spaced (p .disks) ++ (bar ++ (spellAll spaced (p .short) ++ feed))))
         ∙ sym (pick-true (planText unit t p) [] (and-both _ _ (le-leb _ _ k) (le-leb _ _ l)))
 
-    pub plan-printed : {mid after : List ℕ} {at n : ℕ} → length out ≡ 24576
+    pub plan-printed : {mid after : List ℕ} {at n : ℕ} → length out ≡ lineMost
         → Adds (word-plan ++ spellAll spaced (unit ∷ t ∷ length (p .disks) ∷ p .time ∷ [])) out 0 mid at
         → Adds (bar ++ (spellAll spaced (p .disks) ++ (bar ++ (spellAll spaced (p .short) ++ feed)))) mid at after n
         → Printed (planLine unit t p) out n after
@@ -90,7 +103,7 @@ module _ (unit t : ℕ) (p : Plan) (out : List ℕ) where
 -- ---- a sheet
 
 module _ (sheet out : List ℕ) where
-  pub long-sheet : 4096 < length sheet → Printed (sheetLine sheet) out 0 out
+  pub long-sheet : sheetMost < length sheet → Printed (sheetLine sheet) out 0 out
   unfolding sheetLine
   long-sheet h = printed-same (sym (pick-false _ _ (lt-leb _ _ h))) (no-line out)
 
@@ -98,9 +111,11 @@ module _ (sheet out : List ℕ) where
   unfolding pair
   pair-bound v = omega arith
 
-  pub sheet-printed : {mid late after : List ℕ} {at p n : ℕ} → length sheet ≤ 4096 → length out ≡ 24576 → Adds (112 ∷ 108 ∷ 97 ∷ 110 ∷ 32 ∷ []) out 0 mid at → Adds (hex sheet) mid at late p → Adds (10 ∷ []) late p after n → Printed (sheetLine sheet) out n after
+  pub sheet-printed : {mid late after : List ℕ} {at p n : ℕ} → length sheet ≤ sheetMost → length out ≡ lineMost
+      → Adds (ascii "plan ") out 0 mid at → Adds (hex sheet) mid at late p → Adds (10 ∷ []) late p after n
+      → Printed (sheetLine sheet) out n after
   unfolding sheetLine word-plan feed hex
   sheet-printed {mid} {late} {after} {at} {p} {n} h m a b d =
-      let j : Adds ((112 ∷ 108 ∷ 97 ∷ 110 ∷ 32 ∷ []) ++ (spellAll pair sheet ++ (10 ∷ []))) out 0 after n = adds-join a (adds-join b d) in
+      let j : Adds (ascii "plan " ++ (spellAll pair sheet ++ (10 ∷ []))) out 0 after n = adds-join a (adds-join b d) in
       printed-same (sym (pick-true _ _ (le-leb _ _ h)))
       (adds-line j (omega (arith, length-append (spellAll pair sheet) (10 ∷ []), spell-bound pair 2 pair-bound sheet)))

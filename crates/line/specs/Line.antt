@@ -2,7 +2,7 @@
 --     spoken        a word, or a word and a number
 --     planLine      a plan's fields
 --     sheetLine     a plan sheet's bytes
-use Prim.Native.Nat.{ℕ}
+use Prim.Native.Nat.{ℕ, _-_, _/_}
 use mathlib.Core.List.{List, [], _∷_, _++_}
 use lib.ListN.{length}
 use lib.Dec.{leb}
@@ -12,34 +12,40 @@ use Rattle.plan.specs.Plan.{Plan}
 use Rattle.plan.specs.Draft.{counted}
 use Rattle.line.specs.declared.Word.{Word}
 use Rattle.line.specs.declared.Word.the-variants.{Rented, Set, Returned, Refused, Stopped}
-use Rattle.line.specs.Text.{spaced, hex}
+use Rattle.line.specs.Text.{ascii, spaced, hex}
+
+-- a program's buffer for a line; the longest sheet that has room there, in hex behind "plan " and before the line feed
+abbrev pub lineMost : ℕ
+lineMost = 24576
+
+abbrev pub sheetMost : ℕ
+sheetMost = (lineMost - 6) / 2
 
 -- the line feed
 unfoldable pub feed : List ℕ
-feed = 10 ∷ []
+feed = ascii "\n"
 
--- "rented", "set", "returned", "refused", "stopped", "plan"
 unfoldable pub word-rented : List ℕ
-word-rented = 114 ∷ 101 ∷ 110 ∷ 116 ∷ 101 ∷ 100 ∷ []
+word-rented = ascii "rented"
 
 unfoldable pub word-set : List ℕ
-word-set = 115 ∷ 101 ∷ 116 ∷ []
+word-set = ascii "set"
 
 unfoldable pub word-returned : List ℕ
-word-returned = 114 ∷ 101 ∷ 116 ∷ 117 ∷ 114 ∷ 110 ∷ 101 ∷ 100 ∷ []
+word-returned = ascii "returned"
 
 unfoldable pub word-refused : List ℕ
-word-refused = 114 ∷ 101 ∷ 102 ∷ 117 ∷ 115 ∷ 101 ∷ 100 ∷ []
+word-refused = ascii "refused"
 
 unfoldable pub word-stopped : List ℕ
-word-stopped = 115 ∷ 116 ∷ 111 ∷ 112 ∷ 112 ∷ 101 ∷ 100 ∷ []
+word-stopped = ascii "stopped"
 
 unfoldable pub word-plan : List ℕ
-word-plan = 112 ∷ 108 ∷ 97 ∷ 110 ∷ []
+word-plan = ascii "plan"
 
 -- " |"
 unfoldable pub bar : List ℕ
-bar = 32 ∷ 124 ∷ []
+bar = ascii " |"
 
 -- one word, or a word and a number
 unfoldable pub spoken : Word → List ℕ
@@ -52,12 +58,13 @@ spoken (Stopped n) = word-stopped ++ (spaced n ++ feed)
 -- plan, unit, tenancy, Q, R, the disks by block, the short set, parted by single spaces
 unfoldable pub planText : ℕ → ℕ → Plan → List ℕ
 planText unit t p =
-    word-plan ++ (spellAll spaced (unit ∷ t ∷ length (p .disks) ∷ p .time ∷ []) ++ (bar ++ (spellAll spaced (p .disks) ++ (bar ++ (spellAll spaced (p .short) ++ feed)))))
+    word-plan ++ (spellAll spaced (unit ∷ t ∷ length (p .disks) ∷ p .time ∷ []) ++
+    (bar ++ (spellAll spaced (p .disks) ++ (bar ++ (spellAll spaced (p .short) ++ feed)))))
 
 -- no line where Q or m is above 1,024
 unfoldable pub planLine : ℕ → ℕ → Plan → List ℕ
 planLine unit t p = pick (counted p) (planText unit t p) []
 
--- plan, and the sheet's bytes in hex; no line where there are more than 4,096
+-- plan, and the sheet's bytes in hex; no line where it would be longer than its buffer
 unfoldable pub sheetLine : List ℕ → List ℕ
-sheetLine bytes = pick (leb (length bytes) 4096) (word-plan ++ (32 ∷ (hex bytes ++ feed))) []
+sheetLine bytes = pick (leb (length bytes) sheetMost) (ascii "plan " ++ (hex bytes ++ feed)) []

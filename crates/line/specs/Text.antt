@@ -1,12 +1,20 @@
--- Numbers as text, in ASCII.
+-- Words and numbers as text, in ASCII.
+--     ascii       a byte for each character
 --     decimal     a number's decimal digits
 --     spaced      the same after one space
 --     hex         bytes as pairs of digits, in lower case
 use Prim.Native.Nat.{ℕ, zero, suc, _+_, _/_, _%_}
+use Prim.Native.Char.{code}
+use Prim.Native.String.{String}
+use Prim.Native.String.{[] as none, _∷_ as _then_}
 use mathlib.Core.List.{List, [], _∷_, _++_}
 use lib.Dec.{ltb}
 use Rattle.basics.specs.Choice.{pick}
 use Rattle.field.specs.Put.{spellAll}
+
+abbrev pub ascii : String → List ℕ
+ascii none = []
+ascii (c then rest) = code c ∷ ascii rest
 
 -- 0 to 9, then a to f
 unfoldable pub digit : ℕ → ℕ

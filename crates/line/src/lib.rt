@@ -1,4 +1,5 @@
 // What the programs print: lines of text at the start of a lent buffer, which has room for the longest.
+use basics::BLOCKS;
 use field::Refusal;
 ghost use Prim.Native.Nat.{_<_};
 ghost use mathlib.Core.Path.{_≡_};
@@ -9,6 +10,13 @@ ghost use Rattle.line.specs.Text.{decimal, spaced, pair, hex};
 ghost use Rattle.line.specs.Text.{digit as digitOf};
 ghost use Rattle.line.specs.Line.{feed, bar, word-plan, spoken, planLine, sheetLine};
 ghost use Rattle.line.specs.Printed.{Printed, Adds};
+
+// The bytes of a line's buffer, and of the longest sheet that has room there in hex.
+pub const LINE_MOST: usize = 24576;
+
+pub const SHEET_MOST: usize = (LINE_MOST - 6) / 2;
+
+pub type Line = [u8; LINE_MOST];
 
 // What a line can say in a word, or in a word and a number.
 pub enum Word {
@@ -92,23 +100,24 @@ fn digit(d: u8) -> u8
     if d < 10 { 48 + d } else { 87 + d }
 }
 
-fn put_pair(b: u8, out: &mut [u8], at: usize) -> usize
-    ensures { λ r. ⌜ Adds (pair b) (now (out .entry)) at (now (out .exit)) r ⌝ }
-{
-    let p = put_byte(digit(b / 16), out, at);
-    put_byte(digit(b % 16), out, p)
-}
-
+// Two digits for each byte, if all of them have room.
 fn put_hex(xs: &[u8], out: &mut [u8], at: usize) -> usize
     ensures { λ r. ⌜ Adds (hex (now (xs .entry))) (now (out .entry)) at (now (out .exit)) r ⌝ }
 {
-    let mut p = at;
+    if out.len() < at {
+        return at;
+    }
+    if (out.len() - at) / 2 < xs.len() {
+        return at;
+    }
     let mut i: usize = 0;
     while i < xs.len() {
-        p = put_pair(xs[i], out, p);
+        let b = xs[i];
+        out[at + 2 * i] = digit(b / 16);
+        out[at + 2 * i + 1] = digit(b % 16);
         i += 1;
     }
-    p
+    at + 2 * xs.len()
 }
 
 // A word, and the end of the line.
@@ -128,7 +137,7 @@ fn numbered(word: &[u8], n: u32, out: &mut [u8]) -> usize
     put_byte(10, out, q)
 }
 
-pub fn say(w: Word, line: &mut [u8; 24576]) -> usize
+pub fn say(w: Word, line: &mut Line) -> usize
     ensures { λ r. ⌜ Printed (spoken w) (now (line .entry)) r (now (line .exit)) ⌝ }
 {
     match w {
@@ -141,7 +150,7 @@ pub fn say(w: Word, line: &mut [u8; 24576]) -> usize
 }
 
 // The line of a refusal.
-pub fn refuse(e: Refusal, line: &mut [u8; 24576]) -> usize
+pub fn refuse(e: Refusal, line: &mut Line) -> usize
     ensures { λ r. ⌜ Printed (spoken (Word.Refused (numberOf e))) (now (line .entry)) r (now (line .exit)) ⌝ }
 {
     say(Word::Refused(field::number_of(e)), line)
@@ -160,7 +169,8 @@ fn put_head(unit: u32, tenancy: u32, q: u32, time: u32, out: &mut [u8]) -> usize
 
 // The two lists, and the end of the line.
 fn put_lists(disks: &[u8], short: &[u16], out: &mut [u8], at: usize) -> usize
-    ensures { λ r. ⌜ Adds (bar ++ (spellAll spaced (now (disks .entry)) ++ (bar ++ (spellAll spaced (now (short .entry)) ++ feed)))) (now (out .entry)) at (now (out .exit)) r ⌝ }
+    ensures { λ r. ⌜ Adds (bar ++ (spellAll spaced (now (disks .entry)) ++ (bar ++ (spellAll spaced (now (short .entry)) ++ feed))))
+        (now (out .entry)) at (now (out .exit)) r ⌝ }
 {
     let a = put_text(b" |", out, at);
     let b = put_disks(disks, out, a);
@@ -176,25 +186,26 @@ pub fn plan_line(
     time: u32,
     disks: &[u8],
     short: &[u16],
-    line: &mut [u8; 24576],
+    line: &mut Line,
 ) -> usize
-    ensures { λ r. ⌜ Printed (planLine unit tenancy (record { time = time; disks = now (disks .entry); short = now (short .entry) })) (now (line .entry)) r (now (line .exit)) ⌝ }
+    ensures { λ r. ⌜ Printed (planLine unit tenancy (record { time = time; disks = now (disks .entry); short = now (short .entry) }))
+        (now (line .entry)) r (now (line .exit)) ⌝ }
 {
-    if 1024 < disks.len() {
+    if BLOCKS < disks.len() {
         return 0;
     }
-    if 1024 < short.len() {
+    if BLOCKS < short.len() {
         return 0;
     }
     let p = put_head(unit, tenancy, disks.len() as u32, time, line);
     put_lists(disks, short, line, p)
 }
 
-// A plan sheet's line in hex; where the sheet has more than 4,096 bytes, answers 0 and changes nothing.
-pub fn sheet_line(sheet: &[u8], line: &mut [u8; 24576]) -> usize
+// A plan sheet's line in hex; where the line would be longer than its buffer, answers 0 and changes nothing.
+pub fn sheet_line(sheet: &[u8], line: &mut Line) -> usize
     ensures { λ r. ⌜ Printed (sheetLine (now (sheet .entry))) (now (line .entry)) r (now (line .exit)) ⌝ }
 {
-    if 4096 < sheet.len() {
+    if SHEET_MOST < sheet.len() {
         return 0;
     }
     let a = put_text(b"plan ", line, 0);

@@ -109,7 +109,8 @@ has-ones zero e = has-zero e ∙ sym (leb·suc-zero e)
 has-ones (suc n) zero =
     let p = pow-suc 2 n in
     let q = pow-pos n in
-    has-first (2 ^ suc n - 1) ∙ ap (λ (x : ℕ). eqb x 1) {x = (2 ^ suc n - 1) % 2} {y = 1} (omega arith) ∙ sym (lt-ltb 0 (suc n) (omega arith))
+    has-first (2 ^ suc n - 1) ∙ ap (λ (x : ℕ). eqb x 1) {x = (2 ^ suc n - 1) % 2} {y = 1} (omega arith)
+    ∙ sym (lt-ltb 0 (suc n) (omega arith))
 has-ones (suc n) (suc e) =
     let p = pow-suc 2 n in
     let q = pow-pos n in

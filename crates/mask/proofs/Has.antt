@@ -5,7 +5,8 @@
 --     has-ext                           two masks with the same disks are equal
 --     mask-zero, mask-some              no disk: the mask is 0; not 0: some disk
 --     has-bound                         no disk at n or above: a number of n bits
---     has-le, has-lt, clear-lt          a mask inside another is no greater; with one disk missing it is less; so is one with a disk taken out
+--     has-le, has-lt, clear-lt          a mask inside another is no greater; with one disk missing it is less; so is one with a disk
+--         taken out
 use mathlib.Core.Path.{_≡_, refl, sym, ap, _∙_}
 use mathlib.Core.Bool.{Bool, true, false, not, _&&_, true≢false}
 use mathlib.Core.Logic.{_⊎_, inl, inr, ⊎-elim}
@@ -76,7 +77,8 @@ has-ext (suc n) m m′ h h′ e =
     let p = pow-suc 2 n in
     let high : m / 2 ≡ m′ / 2 =
     has-ext n (m / 2) (m′ / 2) (omega arith) (omega arith) (λ d l. sym (has-half m d) ∙ e (suc d) (suc-le-suc l) ∙ has-half m′ d) in
-    let low : m % 2 ≡ m′ % 2 = same-bit (m % 2) (m′ % 2) (omega arith) (omega arith) (sym (has-first m) ∙ e 0 (omega arith) ∙ has-first m′) in
+    let low : m % 2 ≡ m′ % 2 =
+    same-bit (m % 2) (m′ % 2) (omega arith) (omega arith) (sym (has-first m) ∙ e 0 (omega arith) ∙ has-first m′) in
     omega arith
 
 pub mask-zero : (n m : ℕ) → m < 2 ^ n → ((d : ℕ) → d < n → has m d ≡ false) → m ≡ 0
@@ -118,7 +120,8 @@ has-lt n r m d h f out found = lt-of-le-ne (has-le n r m h f) (λ q. true≢fals
 -- the measure of a walk that takes its disks out one by one
 pub clear-lt : (n r m d : ℕ) → r < 2 ^ n → ((e : ℕ) → has r e ≡ (not (eqb e d) && has m e)) → has m d ≡ true → r < m
 clear-lt n r m d h c found =
-    has-lt n r m d h (λ e l t. right (not (eqb e d)) (has m e) (sym (c e) ∙ t)) (c d ∙ ap (λ (t : Bool). not t && has m d) (eq-eqb d d refl)) found
+    has-lt n r m d h (λ e l t. right (not (eqb e d)) (has m e) (sym (c e) ∙ t))
+    (c d ∙ ap (λ (t : Bool). not t && has m d) (eq-eqb d d refl)) found
   where
     right : (a b : Bool) → (a && b) ≡ true → b ≡ true
     right true b t = t

@@ -1,6 +1,6 @@
 -- Each promise has one answer: no second one of 64 bits satisfies it.
---     told-unique                   `test`, `count`
---     mask-unique                   `clear`, `both`, `either`, `without`
+--     told-unique                   `test`, `held`, `count`
+--     mask-unique                   `clear`, `both`, `either`, `without`, `put`, `take`, `only`, `before`
 --     added-unique, single-unique   `set`, `one`
 --     below-unique, lowest-unique   `below`, `lowest`
 use mathlib.Core.Path.{_≡_, sym, _∙_}

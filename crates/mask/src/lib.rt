@@ -1,8 +1,8 @@
 // One u64 is a set of disks: bit d stands for disk d. A number at 64 or above is no disk.
 ghost use mathlib.Core.Path.{_≡_};
 ghost use mathlib.Core.Bool.{not, _&&_, _||_};
-ghost use Prim.Native.Nat.{ℕ};
-ghost use lib.Dec.{eqb};
+ghost use Prim.Native.Nat.{ℕ, _<_};
+ghost use lib.Dec.{eqb, ltb};
 ghost use Rattle.mask.specs.Has.{has};
 ghost use Rattle.mask.specs.Member.{Added, Single, Below};
 ghost use Rattle.mask.specs.Lowest.{Lowest};
@@ -76,4 +76,46 @@ pub fn count(m: u64) -> u32
     ensures { λ r. ⌜ r ≡ members 64 m ⌝ }
 {
     u64::count_ones(m)
+}
+
+// The five that follow are for a d that is known to be a disk: they test nothing.
+
+// Whether disk d is in m.
+pub fn held(m: u64, d: usize) -> bool
+    requires { ⌜ d < 64 ⌝ }
+    ensures { λ r. ⌜ r ≡ has m d ⌝ }
+{
+    (m >> d) & 1 != 0
+}
+
+// m with disk d put in.
+pub fn put(m: u64, d: usize) -> u64
+    requires { ⌜ d < 64 ⌝ }
+    ensures { λ r. ⌜ ((e : ℕ) → has r e ≡ (eqb e d || has m e)) ⌝ }
+{
+    m | (1 << d)
+}
+
+// m with disk d taken out.
+pub fn take(m: u64, d: usize) -> u64
+    requires { ⌜ d < 64 ⌝ }
+    ensures { λ r. ⌜ ((e : ℕ) → has r e ≡ (not (eqb e d) && has m e)) ⌝ }
+{
+    m & !(1 << d)
+}
+
+// Disk d alone.
+pub fn only(d: usize) -> u64
+    requires { ⌜ d < 64 ⌝ }
+    ensures { λ r. ⌜ ((e : ℕ) → has r e ≡ eqb e d) ⌝ }
+{
+    1 << d
+}
+
+// The disks before d.
+pub fn before(d: usize) -> u64
+    requires { ⌜ d < 64 ⌝ }
+    ensures { λ r. ⌜ ((e : ℕ) → has r e ≡ ltb e d) ⌝ }
+{
+    (1 << d) - 1
 }

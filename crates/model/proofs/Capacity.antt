@@ -1,11 +1,12 @@
 -- Capacity and end time say the same thing.
 --     capacity-before, capacity-after   the two cases of the capacity
 --     capacity-law                      b blocks fit by t exactly if they end by t
---     capacity-grows                    a later time has no smaller capacity
+--     capacity-grows                    a later time has no smaller capacity (001, Lemma 5.3)
 --     endTime-idle, endTime-is          the two cases of the end time
 --     capacity-at-end, capacity-before-end    at the end of b blocks it is b, one microsecond sooner b - 1
 --     capacity-at, capacity-sooner, capacity-between    the same by the end time, and all between two ends
 --     response-law                      a schedule is in time exactly if every disk's blocks are within its capacity
+--                                       (001, Lemma 5.2, for one schedule)
 use Prim.Native.Nat.{ℕ, zero, suc, _+_, _-_, _*_, _/_, _≤_, _<_}
 use mathlib.Core.Path.{_≡_, refl, sym, subst, _∙_}
 use mathlib.Core.Logic.{_↔_}

@@ -1,5 +1,4 @@
 -- Closed sets and the greatest shortfall, under one assignment within capacities.
---     stuck-short       what a search from one unplaced block leaves is short
 --     exact             a closed set's shortfall is the number of unplaced blocks
 --     closed-greatest   a closed set has the greatest shortfall
 --     greatest-closed   where one set is closed, every set with the greatest shortfall is
@@ -13,11 +12,11 @@ use lib.Dec.{leb, eqb}
 use borrow.Author.Tests.{leb-true, le-leb, eqb-true, eq-eqb}
 use Rattle.basics.specs.Count.{gate, sum}
 use Rattle.model.specs.Assignment.{reads, Partial, Within}
-use Rattle.model.specs.Shortfall.{touches, size, room, Sub, Short, NoShorter, Greatest, ShortSet}
+use Rattle.model.specs.Shortfall.{touches, size, room, Sub, NoShorter, Greatest, ShortSet}
 use Rattle.model.specs.Closed.{Closed}
 use Rattle.model.specs.Order.{Agree}
 use Rattle.basics.proofs.Tests.{by-cases, and-left, and-right, and-both, same-test}
-use Rattle.basics.proofs.Count.{gate-true, gate-false, sum-ext, sum-le, sum-tight, count-ext, count-tight, count-here}
+use Rattle.basics.proofs.Count.{gate-true, gate-false, sum-ext, sum-le, sum-tight, count-ext, count-tight}
 use Rattle.model.proofs.Duality.{share, left, unplaced, split, share-le, left-le, share-room, untouched, weak}
 
 -- where all that a disk reads is in S, the share of S is all of it
@@ -27,28 +26,6 @@ share-whole q a S d f =
     count-ext q (λ b. S b && eqb (a b) d) (λ b. eqb (a b) d)
     (λ b h. same-test (S b && eqb (a b) d) (eqb (a b) d) (and-right (S b) (eqb (a b) d))
     (λ t. and-both (S b) (eqb (a b) d) (f b h (eqb-true (a b) d t)) t))
-
--- what a search from one unplaced block leaves: each disk that S touches is full and reads only blocks of S, and S has a block that is on no disk
-pub stuck-short : (n q : ℕ) (copy : ℕ → ℕ → Bool) (capacities a : ℕ → ℕ) (S : ℕ → Bool)
-    → ((d : ℕ) → d < n → touches q copy S d ≡ true → capacities d ≤ reads q a d)
-    → ((b : ℕ) → b < q → a b < n → touches q copy S (a b) ≡ true → S b ≡ true)
-    → (b : ℕ) → b < q → n ≤ a b → S b ≡ true → Short n q copy capacities S
-unfolding Short room left
-stuck-short n q copy capacities a S full owns b h l s =
-    omega (
-      arith,
-      split n q a S,
-      count-here q (λ i. S i && leb n (a i)) b h (and-both (S b) (leb n (a b)) s (le-leb n (a b) l)),
-      sum-le n (λ d. gate (touches q copy S d) (capacities d)) (λ d. share q a S d)
-          (λ d k. by-cases (touches q copy S d)
-          (λ e. omega (
-            arith,
-            gate-true (touches q copy S d) (capacities d) e,
-            full d k e,
-            share-whole q a S d (λ i j t. owns i j (omega (arith, t)) (ap (touches q copy S) t ∙ e)),
-          ))
-          (λ e. omega (arith, gate-false (touches q copy S d) (capacities d) e))),
-    )
 
 module _ (n q : ℕ) (copy : ℕ → ℕ → Bool) (capacities a : ℕ → ℕ) (v : Partial n q copy a) (w : Within n q capacities a) where
   -- a closed set has all that is unplaced

@@ -1,4 +1,5 @@
--- Double counting: a set's blocks, split by the disk that reads them; and weak duality: what is placed within capacities leaves no set short.
+-- Double counting: a set's blocks, split by the disk that reads them.
+-- Weak duality: what is placed within capacities leaves no set short.
 --     share q a S d     how many blocks of S the assignment reads from disk d
 --     left n q a S      how many blocks of S it leaves unplaced
 --     unplaced n q a    how many blocks it leaves unplaced in all
@@ -17,7 +18,8 @@ use Rattle.basics.specs.Count.{bit, gate, sum, count}
 use Rattle.model.specs.Assignment.{reads, Partial, Valid, Within}
 use Rattle.model.specs.Shortfall.{touches, size, room, Short}
 use Rattle.basics.proofs.Tests.{by-cases, differ, and-left, and-right, and-both, not-here}
-use Rattle.basics.proofs.Count.{bit-true, bit-false, gate-true, gate-mono, sum-ext, sum-le, sum-zero, sum-add, sum-swap, count-le, count-none, count-here, any-here, any-mono}
+use Rattle.basics.proofs.Count.{bit-true, bit-false, gate-true, gate-mono, sum-ext, sum-le, sum-zero, sum-add, sum-swap, count-le}
+use Rattle.basics.proofs.Count.{count-none, count-here, any-here, any-mono}
 
 -- how many blocks of S the assignment reads from disk d
 unfoldable pub share : ℕ → (ℕ → ℕ) → (ℕ → Bool) → ℕ → ℕ

@@ -14,16 +14,16 @@ use native.Mathlib.Omega.{arith}
 use lib.Dec.{ltb, eqb}
 use borrow.Author.Tests.{ltb-true, lt-ltb, le-ltb, eqb-true, eq-eqb, ne-eqb}
 use Rattle.model.specs.Assignment.{Valid, Within}
-use Rattle.model.specs.Case.{Case, Priced, Held, Schedule, response, InTime, HasTime, capacityAt}
+use Rattle.model.specs.Case.{Case, Priced, Held, Schedule, response, HasTime, capacityAt}
 use Rattle.model.specs.Shortfall.{size, room, Short, NoShorter, Greatest}
-use Rattle.model.specs.Order.{Agree, FirstOf, Lowest}
-use Rattle.model.specs.Time.{LeastTime, members, roomAt, ShortAt, GreatestEarliest}
+use Rattle.model.specs.Order.{Agree, FirstOf}
+use Rattle.model.specs.Time.{LeastTime, members, roomAt, ShortAt, GreatestEarliest, Certificate}
 use Rattle.model.specs.Plan.{Optimal}
 use Rattle.basics.proofs.Tests.{differ, and-left, and-right, and-both, below-suc, below-or}
 use Rattle.model.proofs.Capacity.{response-within, within-response}
 use Rattle.model.proofs.Duality.{none-short}
-use Rattle.model.proofs.Time.{in-time, Certificate, certificate, certificate-greatest, certified-equal}
-use Rattle.model.proofs.Order.{lowest-start, lowest-keep, lowest-more, lowest-first, first-same, first-has-time}
+use Rattle.model.proofs.Time.{in-time, certificate, certificate-greatest, certified-equal}
+use Rattle.model.proofs.Order.{Lowest, InTime, lowest-start, lowest-keep, lowest-more, lowest-first, first-same, first-has-time}
 use Rattle.model.proofs.Earliest.{first-number, time-positive}
 use Rattle.model.proofs.Plan.{plan-unique, no-blocks}
 use Rattle.model.proofs.Subsets.{put, put-here, put-below}

@@ -1,4 +1,5 @@
--- The table P1 to P9 holds: a test of a row by brute force over all schedules and all sets, one law from the test to the facts, and one computation.
+-- The table P1 to P9 holds: a test of a row by brute force over all schedules and all sets,
+-- one law from the test to the facts, and one computation.
 --     all, imp       a test on every number below a bound; one test implies another
 --     every          a test on every choice of q values from a list
 --     planned        the test of a plan
@@ -251,7 +252,8 @@ planned-law m R a S e =
             (true-before (m .blocks) x a b)
             (not-true (before? (m .blocks) x a)
             (imp-here (eqb (response m x) R) (not (before? (m .blocks) x a))
-            (and-right (leb R (response m x)) (imp (eqb (response m x) R) (not (before? (m .blocks) x a))) (slower-here m R a (f .2) x (p .0)))
+            (and-right (leb R (response m x)) (imp (eqb (response m x) R) (not (before? (m .blocks) x a)))
+            (slower-here m R a (f .2) x (p .0)))
             (eq-eqb (response m x) R (p .1))));
       };
       short = record {

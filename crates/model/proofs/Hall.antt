@@ -1,4 +1,5 @@
--- Strong duality: where no set is short there is a schedule within capacities. The last block is placed on a disk whose capacity, one less,
+-- Strong duality, by Hall's marriage theorem with capacities (the greatest flow of 001, Theorem 4.1, is Q exactly where no set is short):
+-- where no set is short there is a schedule within capacities. The last block is placed on a disk whose capacity, one less,
 -- leaves no set of the other blocks short; were there no such disk, the tight sets that forbid each of them would together be short.
 --     hall       no set is short: a schedule within capacities
 --     hall-or    a schedule within capacities, or a set that is short
@@ -14,7 +15,8 @@ use Rattle.model.specs.Assignment.{reads, Valid, Within}
 use Rattle.model.specs.Shortfall.{touches, size, room, Short}
 use Rattle.model.specs.Order.{Agree}
 use Rattle.basics.proofs.Tests.{by-cases, differ, or-elim, or-left, or-right, not-here, below-suc, below-or}
-use Rattle.basics.proofs.Count.{bit-true, bit-false, gate-false, gate-le, gate-mono, sum-ext, sum-le, sum-zero, sum-point, count-ext, any-ext, any-some}
+use Rattle.basics.proofs.Count.{bit-true, bit-false, gate-false, gate-le, gate-mono, sum-ext, sum-le, sum-zero, sum-point, count-ext}
+use Rattle.basics.proofs.Count.{any-ext, any-some}
 use Rattle.model.proofs.Duality.{room-ext, touches-mono}
 use Rattle.model.proofs.Subsets.{put, put-here, put-other, put-below, FirstOnly, find}
 use Rattle.model.proofs.Short.{union, meet, union-size, submodular}

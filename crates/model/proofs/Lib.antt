@@ -3,6 +3,7 @@ pub mod Duality
 pub mod Time
 pub mod Closed
 pub mod Order
+pub mod Same
 pub mod Plan
 pub mod Move
 pub mod Earliest

@@ -1,23 +1,21 @@
 -- Dictionary order, over any property of schedules.
+--     agree-sym, agree-trans, agree-less   the same for the first k blocks
+--     Lowest                       as low as can be, block by block
 --     lowest-first, first-lowest   block by block the lowest possible is the first, and the other way
 --     lowest-start                 before any block is settled
 --     lowest-keep                  what has the property and agrees below k is as low below k
 --     lowest-more                  from k blocks settled to k + 1
---     first-unique                 two firsts agree
---     first-in-time, first-has-time   at the least time, done by R and of time R are one property
-use Prim.Native.Nat.{ℕ, zero, suc, _≤_}
-use mathlib.Core.Path.{refl, sym, ap, _∙_}
+--     first-unique, first-same     two firsts agree; the first of one property is that of another that says the same
+--     InTime, first-has-time       the first of all done by R, the least time, is the first of time R
+use Prim.Native.Nat.{ℕ, zero, suc, _≤_, _<_}
+use mathlib.Core.Path.{sym, ap, _∙_}
 use mathlib.Core.Logic.{⊎-elim}
 use native.Mathlib.Nat.{le-antisymm}
 use native.Mathlib.Omega.{arith}
-use Rattle.model.specs.Case.{Case, InTime, HasTime}
+use Rattle.model.specs.Case.{Case, Schedule, response, HasTime}
 use Rattle.model.specs.Time.{LeastTime}
-use Rattle.model.specs.Order.{Agree, Before, FirstOf, Lowest}
+use Rattle.model.specs.Order.{Agree, Before, FirstOf}
 use Rattle.basics.proofs.Tests.{below-suc, below-or}
-
-pub agree-self : {A : Type 0} (k : ℕ) (a : ℕ → A) → Agree k a a
-unfolding Agree
-agree-self k a b h = refl
 
 pub agree-sym : {A : Type 0} (k : ℕ) (a a′ : ℕ → A) → Agree k a a′ → Agree k a′ a
 unfolding Agree
@@ -30,6 +28,13 @@ agree-trans k a a′ a″ e e′ b h = e b h ∙ e′ b h
 pub agree-less : {A : Type 0} (j k : ℕ) (a a′ : ℕ → A) → j ≤ k → Agree k a a′ → Agree j a a′
 unfolding Agree
 agree-less j k a a′ l e b h = e b (omega arith)
+
+-- ---- block by block
+
+-- as low as can be for the first k blocks: none with P that agrees with a before block b has a lower disk at b
+pub record Lowest (k : ℕ) (P : (ℕ → ℕ) → Type 0) (a : ℕ → ℕ) : Type 0 where
+  pub holds : P a
+  pub low : (a′ : ℕ → ℕ) → P a′ → (b : ℕ) → b < k → Agree b a′ a → a b ≤ a′ b
 
 module _ (P : (ℕ → ℕ) → Type 0) where
   pub lowest-start : (a : ℕ → ℕ) → P a → Lowest 0 P a
@@ -94,6 +99,12 @@ pub first-same : (P P′ : (ℕ → ℕ) → Type 0) (q : ℕ) (a : ℕ → ℕ)
     → ((x : ℕ → ℕ) → P x → P′ x) → ((x : ℕ → ℕ) → P′ x → P x) → FirstOf q P a → FirstOf q P′ a
 first-same P P′ q a f g l = record { holds = f a (l .holds); none = λ a′ p. l .none a′ (g a′ p) }
 
+-- ---- at the least time
+
+-- the schedules that are done by t
+unfoldable pub InTime : Case → ℕ → (ℕ → ℕ) → Type 0
+InTime m t a = Schedule m a × (response m a ≤ t)
+
 has-in : (m : Case) (R : ℕ) (a : ℕ → ℕ) → HasTime m R a → InTime m R a
 unfolding HasTime InTime
 has-in m R a h = (h .0, omega (arith, h .1))
@@ -104,6 +115,3 @@ in-has m R l a h = (h .0, le-antisymm (h .1) (l .lower a (h .0)))
 
 pub first-has-time : (m : Case) (R q : ℕ) (a : ℕ → ℕ) → LeastTime m R → FirstOf q (InTime m R) a → FirstOf q (HasTime m R) a
 first-has-time m R q a l = first-same (InTime m R) (HasTime m R) q a (in-has m R l) (has-in m R)
-
-pub first-in-time : (m : Case) (R q : ℕ) (a : ℕ → ℕ) → LeastTime m R → FirstOf q (HasTime m R) a → FirstOf q (InTime m R) a
-first-in-time m R q a l = first-same (HasTime m R) (InTime m R) q a (has-in m R) (in-has m R l)

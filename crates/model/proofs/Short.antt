@@ -15,7 +15,8 @@ use Rattle.basics.specs.Count.{bit, gate, count, any}
 use Rattle.model.specs.Shortfall.{touches, size, room, Sub, NoShorter, Greatest, ShortSet}
 use Rattle.model.specs.Order.{Agree}
 use Rattle.basics.proofs.Tests.{by-cases, differ, and-left, and-right, and-both, or-elim, not-here}
-use Rattle.basics.proofs.Count.{gate-true, gate-false, gate-le, sum-ext, sum-le, sum-add, count-ext, count-most, count-tight, any-some, any-here}
+use Rattle.basics.proofs.Count.{gate-true, gate-false, gate-le, sum-ext, sum-le, sum-add, count-ext, count-most, count-tight, any-some}
+use Rattle.basics.proofs.Count.{any-here}
 use Rattle.model.proofs.Duality.{room-mono, room-ext, touches-mono}
 use Rattle.model.proofs.Closed.{short-unique}
 use Rattle.model.proofs.Subsets.{FirstOnly, most}

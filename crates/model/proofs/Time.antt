@@ -1,7 +1,7 @@
--- The certificate: a schedule in time R and a set short at R - 1 make R the least time, and the greatest earliest time of any set (demand 3).
+-- The certificate: a schedule in time R and a set short at R - 1 make R the least time, and the greatest earliest time of any set
+-- (demand 3). 001's Algorithm 2 stops on it: one step before, not all blocks fit.
 --     in-time, roomAt-grows    a schedule done by t leaves no set short at t; a later time has no less room
 --     short-after, short-later a set short at t holds every schedule, and its own earliest time, back beyond t
---     Certificate              a schedule in time R and a set short at R - 1
 --     certificate              both numbers of demand 3 are then R
 --     time-unique, earliest-unique, greatest-unique     each number is one at most
 --     certified-equal          where there is a certificate the two numbers are equal
@@ -12,7 +12,7 @@ use native.Mathlib.Nat.{le-antisymm}
 use native.Mathlib.Omega.{arith}
 use Rattle.model.specs.Case.{Case, Priced, Schedule, response, capacityAt}
 use Rattle.model.specs.Shortfall.{Short}
-use Rattle.model.specs.Time.{LeastTime, members, roomAt, ShortAt, Earliest, GreatestEarliest}
+use Rattle.model.specs.Time.{LeastTime, members, roomAt, ShortAt, Earliest, GreatestEarliest, Certificate}
 use Rattle.basics.proofs.Tests.{below-or}
 use Rattle.model.proofs.Capacity.{response-within, capacityAt-grows}
 use Rattle.model.proofs.Duality.{weak-duality, room-grows}
@@ -46,12 +46,6 @@ short-later m S t u p s e =
     below-or t u
     (λ l. l)
     (λ l. let z : ⊥ = omega (arith, roomAt-grows m u t p l S) in absurd z)
-
--- a schedule in time R and a set short at R - 1
-pub record Certificate (m : Case) (R : ℕ) (a : ℕ → ℕ) (S : ℕ → Bool) : Type 0 where
-  pub schedule : Schedule m a
-  pub by-then : response m a ≤ R
-  pub short : ShortAt m (R - 1) S
 
 -- R is at least 1: else the schedule would be in time where the set is short
 certified-positive : (m : Case) (R : ℕ) (a : ℕ → ℕ) (S : ℕ → Bool) → Priced m → Certificate m R a S → 1 ≤ R

@@ -1,19 +1,21 @@
--- One request on one table of disks, its schedules and their times.
+-- One request on one table of disks, its schedules and their times: the generalized retrieval problem of 001, which is
+-- N. Altiparmak and A. S. Tosun, Generalized Optimal Response Time Retrieval of Replicated Data from Storage Arrays,
+-- ACM Transactions on Storage 9, 2, Article 5 (2013).
 --     Case             disks, blocks, each disk's start and cost, and which disk holds a copy of which block
---     base             the base: a disk starts at delay plus load
+--     starting, base   when a disk starts; the base: disks by their costs, loads and delays
 --     Priced, Held     every cost is at least 1; every block has a copy on some disk
 --     Schedule         each block on one disk that holds a copy of it
 --     response         a schedule's time
---     InTime, HasTime  the schedules of time at most t, and those of time t exactly
+--     HasTime          the schedules of time t
 --     capacityAt       each disk's capacity at a time
-use Prim.Native.Nat.{ℕ, _+_, _≤_, _<_}
+use Prim.Native.Nat.{ℕ, _+_, _<_}
 use mathlib.Core.Path.{_≡_}
 use mathlib.Core.Bool.{Bool, true}
 use Rattle.basics.specs.Count.{latest}
 use Rattle.model.specs.Assignment.{reads, Valid}
 use Rattle.model.specs.Capacity.{endTime, capacity}
 
--- the number of disks and of blocks; each disk's start (in the base: delay plus load) and cost; whether disk d holds a copy of block b
+-- the number of disks and of blocks; each disk's start and cost; whether disk d holds a copy of block b
 pub record Case : Type 0 where
   pub disks : ℕ
   pub blocks : ℕ
@@ -21,10 +23,14 @@ pub record Case : Type 0 where
   pub cost : ℕ → ℕ
   pub copy : ℕ → ℕ → Bool
 
+-- a disk starts at delay plus load (001, equation 5)
+abbrev pub starting : ℕ → ℕ → ℕ
+starting delay load = delay + load
+
 -- n disks with their costs, loads and delays, and q blocks with their copies
 unfoldable pub base : ℕ → ℕ → (ℕ → ℕ) → (ℕ → ℕ) → (ℕ → ℕ) → (ℕ → ℕ → Bool) → Case
 base n q cost load delay copy =
-    record { disks = n; blocks = q; start = λ d. delay d + load d; cost = cost; copy = copy }
+    record { disks = n; blocks = q; start = λ d. starting (delay d) (load d); cost = cost; copy = copy }
 
 -- every disk's cost is at least 1
 unfoldable pub Priced : Case → Type 0
@@ -42,13 +48,9 @@ Schedule m a = Valid (m .disks) (m .blocks) (m .copy) a
 unfoldable pub endOf : Case → (ℕ → ℕ) → ℕ → ℕ
 endOf m a d = endTime (m .start d) (m .cost d) (reads (m .blocks) a d)
 
--- a schedule's response time: the latest end over all disks
+-- a schedule's response time: the latest end over all disks (001, Corollary 5.6)
 unfoldable pub response : Case → (ℕ → ℕ) → ℕ
 response m a = latest (m .disks) (endOf m a)
-
--- the schedules that are done by t
-unfoldable pub InTime : Case → ℕ → (ℕ → ℕ) → Type 0
-InTime m t a = Schedule m a × (response m a ≤ t)
 
 -- the schedules whose time is t
 unfoldable pub HasTime : Case → ℕ → (ℕ → ℕ) → Type 0

@@ -1,5 +1,5 @@
 -- Dictionary order: block 0 has the lowest disk number possible, then block 1, and so on.
-use Prim.Native.Nat.{ℕ, _≤_, _<_}
+use Prim.Native.Nat.{ℕ, _<_}
 use mathlib.Core.Path.{_≡_}
 
 -- a and a′ are the same for the first k blocks
@@ -14,8 +14,3 @@ Before q a a′ = (b : ℕ) × (b < q) × Agree b a a′ × (a b < a′ b)
 pub record FirstOf (q : ℕ) (P : (ℕ → ℕ) → Type 0) (a : ℕ → ℕ) : Type 0 where
   pub holds : P a
   pub none : (a′ : ℕ → ℕ) → P a′ → Before q a′ a → ⊥
-
--- the same block by block, for the first k: none with P that agrees with a before block b has a lower disk at b
-pub record Lowest (k : ℕ) (P : (ℕ → ℕ) → Type 0) (a : ℕ → ℕ) : Type 0 where
-  pub holds : P a
-  pub low : (a′ : ℕ → ℕ) → P a′ → (b : ℕ) → b < k → Agree b a′ a → a b ≤ a′ b

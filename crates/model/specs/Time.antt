@@ -1,5 +1,9 @@
 -- The two numbers of demand 3: the least time over schedules, and the greatest earliest time over sets.
-use Prim.Native.Nat.{ℕ, _≤_, _<_}
+--     LeastTime             the least time (001, Lemma 5.2: the first time whose capacities let all blocks through)
+--     members, roomAt, ShortAt     a set's size, and its room at a time; whether it is short then
+--     Earliest, GreatestEarliest   the first time at which a set is not short; the greatest of these
+--     Certificate           what shows that a schedule's time is the least: a set short one microsecond before
+use Prim.Native.Nat.{ℕ, _-_, _≤_, _<_}
 use mathlib.Core.Path.{_≡_}
 use mathlib.Core.Bool.{Bool}
 use Rattle.model.specs.Case.{Case, Schedule, response, capacityAt}
@@ -10,7 +14,6 @@ pub record LeastTime (m : Case) (R : ℕ) : Type 0 where
   pub lower : (a : ℕ → ℕ) → Schedule m a → R ≤ response m a
   pub reached : (a : ℕ → ℕ) × Schedule m a × (response m a ≡ R)
 
--- the size of the set S of the case's blocks
 unfoldable pub members : Case → (ℕ → Bool) → ℕ
 members m S = size (m .blocks) S
 
@@ -31,3 +34,9 @@ pub record Earliest (m : Case) (S : ℕ → Bool) (t : ℕ) : Type 0 where
 pub record GreatestEarliest (m : Case) (R : ℕ) : Type 0 where
   pub upper : (S : ℕ → Bool) (t : ℕ) → 0 < members m S → Earliest m S t → t ≤ R
   pub attained : (S : ℕ → Bool) × (0 < members m S) × Earliest m S R
+
+-- a schedule in time R and a set short at R - 1
+pub record Certificate (m : Case) (R : ℕ) (a : ℕ → ℕ) (S : ℕ → Bool) : Type 0 where
+  pub schedule : Schedule m a
+  pub by-then : response m a ≤ R
+  pub short : ShortAt m (R - 1) S

@@ -46,6 +46,19 @@ pub width-more : (v : ℕ) → 128 ≤ v → v < 2 ^ 32 → widthOf v ≡ suc (w
 unfolding widthOf
 width-more v h l = ap length (encode-more v h l)
 
+-- two to five bytes, by how large the number is
+pub width-two : (v : ℕ) → 128 ≤ v → v < 16384 → widthOf v ≡ 2
+width-two v h l = width-more v h (omega arith) ∙ ap suc (width-one (v / 128) (omega arith))
+
+pub width-three : (v : ℕ) → 16384 ≤ v → v < 2097152 → widthOf v ≡ 3
+width-three v h l = width-more v (omega arith) (omega arith) ∙ ap suc (width-two (v / 128) (omega arith) (omega arith))
+
+pub width-four : (v : ℕ) → 2097152 ≤ v → v < 268435456 → widthOf v ≡ 4
+width-four v h l = width-more v (omega arith) (omega arith) ∙ ap suc (width-three (v / 128) (omega arith) (omega arith))
+
+pub width-five : (v : ℕ) → 268435456 ≤ v → v < 2 ^ 32 → widthOf v ≡ 5
+width-five v h l = width-more v (omega arith) l ∙ ap suc (width-four (v / 128) (omega arith) (omega arith))
+
 -- a number below a power of 128 has so many bytes at the most
 pub width-top : (k v : ℕ) → v < 2 ^ 32 → v < 128 ^ suc k → widthOf v ≤ suc k
 width-top zero v l h = omega (arith, width-one v h)
@@ -95,6 +108,23 @@ wrote-one v [] h l = absurd (omega arith)
 wrote-one v (b ∷ s) h l =
     let r = wrote-room v (b ∷ s) (omega (arith, width-one v h)) in
     rw (encode-one v h, width-one v h) at r
+
+-- two bytes are the whole number
+pub wrote-two : (v : ℕ) (out : List ℕ) → 128 ≤ v → v < 128 ^ 2 → 1 < length out
+    → WroteNumber v out 2 (set (set out 0 (v % 128 + 128)) 1 (v / 128))
+unfolding over
+wrote-two v [] h l p = absurd (omega arith)
+wrote-two v (b ∷ []) h l p = absurd (omega arith)
+wrote-two v (b ∷ c ∷ s) h l p =
+    let e : encode v ≡ (v % 128 + 128) ∷ (v / 128) ∷ [] =
+    encode-more v h (omega arith) ∙ ap (λ (r : List ℕ). (v % 128 + 128) ∷ r) (encode-one (v / 128) (omega arith)) in
+    let w : widthOf v ≡ 2 = width-more v h (omega arith) ∙ ap suc (width-one (v / 128) (omega arith)) in
+    let r = wrote-room v (b ∷ c ∷ s) (omega (arith, w)) in
+    rw (e, w) at r
+
+-- a number of more than one byte has no room in one
+pub wrote-short : (v : ℕ) (out : List ℕ) → 128 ≤ v → v < 2 ^ 32 → length out ≤ 1 → WroteNumber v out 0 out
+wrote-short v out h l p = wrote-none v out (omega (arith, width-more v h l, width-bounds (v / 128)))
 
 -- bytes behind the first
 behind : (b : ℕ) (xs out : List ℕ) → 0 < length out → set (take 1 out ++ over xs (drop 1 out)) 0 b ≡ over (b ∷ xs) out

@@ -66,7 +66,8 @@ Exact k s (value v n) = Begins s n (encodeBy k v) × (0 < v) × (v < 16 * 128 ^ 
 Exact k s (refused e) = Unit
 
 -- one group of seven bits before a value
-exact-next : (k b v n : ℕ) (s : List ℕ) → 128 ≤ b → b < 256 → 0 < v → Begins s n (encodeBy k v) → Begins (b ∷ s) (n + 1) (encodeBy (suc k) (b % 128 + 128 * v))
+exact-next : (k b v n : ℕ) (s : List ℕ) → 128 ≤ b → b < 256 → 0 < v → Begins s n (encodeBy k v)
+    → Begins (b ∷ s) (n + 1) (encodeBy (suc k) (b % 128 + 128 * v))
 unfolding encodeBy
 exact-next k b v n s h l p x =
     let w : ℕ = b % 128 + 128 * v in
@@ -91,7 +92,8 @@ exact zero [] h = tt
 exact (suc k) [] h = tt
 exact zero (b ∷ s) h =
     pick-elim (Exact 0 (b ∷ s)) _ _ _ (λ _. tt) λ z.
-    pick-elim (Exact 0 (b ∷ s)) _ _ _ (λ l. (record { bytes = refl; count = refl }, omega (arith, eqb-false b 0 z), omega (arith, ltb-true b 16 l))) λ _. tt
+    pick-elim (Exact 0 (b ∷ s)) _ _ _
+    (λ l. (record { bytes = refl; count = refl }, omega (arith, eqb-false b 0 z), omega (arith, ltb-true b 16 l))) λ _. tt
 exact (suc k) (b ∷ s) h =
     pick-elim (Exact (suc k) (b ∷ s)) _ _ _ (λ _. tt) λ z.
     pick-elim (Exact (suc k) (b ∷ s)) _ _ _

@@ -66,11 +66,20 @@ pub fn read(s: &[u8]) -> Number
 pub fn width(v: u32) -> usize
     ensures { λ r. ⌜ r ≡ widthOf v ⌝ }
 {
-    if v < 128 { 1 } else { 1 + width(v / 128) }
+    if v < 128 {
+        return 1;
+    }
+    if v < 16384 {
+        return 2;
+    }
+    if v < 2097152 {
+        return 3;
+    }
+    if v < 268435456 { 4 } else { 5 }
 }
 
-// Writes the shortest form at the start of a slice and answers its width; where it has no room, answers 0 and changes nothing.
-pub fn write(v: u32, out: &mut [u8]) -> usize
+// Writes the shortest form, group after group.
+fn write_groups(v: u32, out: &mut [u8]) -> usize
     ensures { λ r. ⌜ WroteNumber v (now (out .entry)) r (now (out .exit)) ⌝ }
 {
     if out.len() == 0 {
@@ -81,10 +90,33 @@ pub fn write(v: u32, out: &mut [u8]) -> usize
         return 1;
     }
     // The rest goes first, so that a number with no room has changed nothing.
-    let n = write(v / 128, &mut out[1..]);
+    let n = write_groups(v / 128, &mut out[1..]);
     if n == 0 {
         return 0;
     }
     out[0] = (v % 128 + 128) as u8;
     n + 1
+}
+
+// Writes the shortest form at the start of a slice and answers its width; where it has no room, answers 0 and changes nothing.
+// One byte and two, which nearly all numbers have, are written in place.
+pub fn write(v: u32, out: &mut [u8]) -> usize
+    ensures { λ r. ⌜ WroteNumber v (now (out .entry)) r (now (out .exit)) ⌝ }
+{
+    if 16384 <= v {
+        return write_groups(v, out);
+    }
+    if out.len() == 0 {
+        return 0;
+    }
+    if v < 128 {
+        out[0] = v as u8;
+        return 1;
+    }
+    if out.len() == 1 {
+        return 0;
+    }
+    out[0] = (v % 128 + 128) as u8;
+    out[1] = (v / 128) as u8;
+    2
 }

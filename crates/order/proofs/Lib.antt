@@ -1,4 +1,4 @@
 pub mod Dead
-pub mod Tries
 pub mod Spreads
+pub mod Tries
 pub mod Lowering

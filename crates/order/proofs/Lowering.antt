@@ -1,240 +1,262 @@
 -- A block goes lower, or is done.
-use Prim.Native.Nat.{ℕ, _+_, _≤_, _<_}
-use mathlib.Core.Path.{_≡_, refl, sym, ap, subst, _∙_}
-use mathlib.Core.Bool.{true, false, not, _&&_}
+--     lower-none, none-lower                the lower copies of a block that are not dead for its disk, and when there are none
+--     trying, asked-lowered, asked-stayed   one of them is asked for: the block is lower, or all of them are dead for its disk
+--     asked-less                            each time it is asked there is less to ask for
+--     done                                  the block's copies are cut to its disk, and it leaves its ring
+--     Sorted, sorted-more                   block after block
+--     sorting-start, sorted-start           before the first
+--     sorted-end                            after the last
+use Prim.Native.Nat.{ℕ, _+_, _*_, _^_, _≤_, _<_}
+use mathlib.Core.Path.{_≡_, refl, sym, _∙_}
+use mathlib.Core.Logic.{inl, inr, ⊎-elim}
+use mathlib.Core.Bool.{true, false, not, _&&_, _||_}
 use mathlib.Core.List.{List}
 use native.Mathlib.Omega.{arith}
 use native.Mathlib.Numerals.{add-one}
 use lib.Dec.{eqb, ltb}
-use lib.ListN.{getD, set, length, length-set, replicate, getD-replicate, length-replicate, List·getD-eq-default}
-use lib.Seq.{getD-set-same, getD-set-other}
-use borrow.Author.Tests.{ltb-true, ltb-false, lt-ltb, eqb-true, eqb-false, eq-eqb}
+use lib.ListN.{getD, set, length, length-set, replicate, getD-replicate, length-replicate}
+use borrow.Author.Tests.{ltb-true, ltb-false, lt-ltb, eqb-true, eqb-false, eq-eqb, not-true}
+use Rattle.basics.specs.Limits.{disksMost, placesMost}
 use Rattle.mask.specs.Has.{has}
-use Rattle.mask.proofs.Has.{has-zero}
+use Rattle.mask.proofs.Has.{has-zero, mask-zero}
 use Rattle.model.specs.Assignment.{Valid}
-use Rattle.model.specs.Order.{Agree, Lowest}
-use Rattle.basics.proofs.Tests.{by-cases, differ, and-left, and-right, and-both, or-left, or-right}
-use Rattle.model.proofs.Order.{lowest-start, lowest-first, lowest-keep, lowest-more}
-use Rattle.places.specs.Places.{entry, holds}
-use Rattle.places.specs.Search.{Inside}
-use Rattle.timing.proofs.Stuck.{all-placed}
-use Rattle.order.specs.Sorting.{Bound, Sorting, LowestAt}
-use Rattle.order.specs.Turn.{Trying, Went, Stayed, Spread, Lowered, Done, Possible, Ordered}
-use Rattle.order.proofs.Dead.{owned-any, owned-cut, lowest-by, graves-spread}
-use Rattle.order.proofs.Tries.{recopied}
+use Rattle.model.specs.Order.{Agree}
+use Rattle.model.proofs.Order.{Lowest, lowest-start, lowest-first, lowest-keep, lowest-more}
+use Rattle.basics.proofs.Tests.{by-cases, differ, and-left, and-right, or-left, or-right, not-here}
+use Rattle.places.specs.Places.{entry, holds, Possible}
+use Rattle.places.specs.Among.{Inside}
+use Rattle.places.specs.Seats.{Ringed}
+use Rattle.places.specs.Room.{Open}
+use Rattle.places.proofs.Laws.{all-placed, recopied}
+use Rattle.places.proofs.Shifts.{far-less}
+use Rattle.order.specs.Ordered.{Scheduled, Ordered}
+use Rattle.order.specs.Parts.{Bound, Sorting, LowerCopies, AllDead, Trying, Lowered, Stayed, Spread, Asked, Done}
+use Rattle.order.proofs.Dead.{dead-any, dead-cut, dead-spread, lowest-by}
+use Rattle.order.proofs.Tries.{cut-here, cut-else, cut-fewer}
 
-pub bound-valid : (n q k : ℕ) (cut caps at loads : List ℕ) → Bound n q k cut caps at loads → Valid n q (holds cut) (entry at)
-bound-valid n q k cut caps at loads u = all-placed n q cut at loads (u .placed) (u .whole)
+pub bound-valid : {n q k : ℕ} {cut caps seats counts : List ℕ} → Bound n q k cut caps seats counts → Valid n q (holds cut) (entry seats)
+bound-valid u = all-placed (u .placed) (u .whole)
 
-module _ (n q k : ℕ) (cut caps at loads dead : List ℕ) (s : Sorting n q k cut caps at loads dead) (h : k < q) where
-  valid : Valid n q (holds cut) (entry at)
-  valid = bound-valid n q k cut caps at loads (s .bound)
+-- ---- lower copies
 
-  pub seat : getD at k 0 < n
+module _ {k r : ℕ} {cut seats dead : List ℕ} (p : LowerCopies k cut seats dead r) where
+  lower-both : (e : ℕ) → has r e ≡ true → (holds cut k e && ltb e (getD seats k 0)) ≡ true
+  lower-both e t = and-left (holds cut k e && ltb e (getD seats k 0)) (not (has (getD dead (getD seats k 0) 0) e)) (sym (p .each e) ∙ t)
+
+  lower-part : Inside r (getD cut k 0)
+  lower-part e t = and-left (holds cut k e) (ltb e (getD seats k 0)) (lower-both e t)
+
+  lower-less : (e : ℕ) → has r e ≡ true → e < getD seats k 0
+  lower-less e t = ltb-true e (getD seats k 0) (and-right (holds cut k e) (ltb e (getD seats k 0)) (lower-both e t))
+
+  -- a lower copy is dead already, or is among them
+  lower-here : (d : ℕ) → holds cut k d ≡ true → d < getD seats k 0 → has (getD dead (getD seats k 0) 0) d ≡ false → has r d ≡ true
+  lower-here d t l f = rw (p .each d, t, lt-ltb d (getD seats k 0) l, f) refl
+
+  pub lower-none : r ≡ 0 → AllDead k cut seats dead
+  lower-none z d t l =
+      by-cases (has (getD dead (getD seats k 0) 0) d) (λ u. u) (λ u. absurd (differ (rw z at (lower-here d t l u)) (has-zero d)))
+
+  pub none-lower : r < 2 ^ disksMost → AllDead k cut seats dead → r ≡ 0
+  none-lower h f =
+      mask-zero disksMost r h (λ d _. not-here (has r d) (λ t. differ (f d (lower-part d t) (lower-less d t))
+      (not-true _ (and-right (holds cut k d && ltb d (getD seats k 0)) (not (has (getD dead (getD seats k 0) 0) d))
+      (sym (p .each d) ∙ t)))))
+
+-- ---- one block
+
+module _ {n q k room : ℕ} {cut caps seats counts next prev out by dead : List ℕ}
+    (s : Sorting n q k room cut caps seats counts next prev out by dead) (h : k < q) where
+  u : Bound n q k cut caps seats counts
+  u = s .bound
+
+  seat : getD seats k 0 < n
   unfolding Valid
-  seat = valid k h .0
+  seat = bound-valid u k h .0
 
-  module _ (bl bb lo : ℕ) (fl : (e : ℕ) → has bl e ≡ ltb e (getD at k 0)) (fb : (e : ℕ) → has bb e ≡ (has (getD cut k 0) e && has bl e))
-      (fo : (e : ℕ) → has lo e ≡ (has bb e && not (has (getD dead (getD at k 0) 0) e))) where
-    under : (e : ℕ) → has lo e ≡ true → has bb e ≡ true
-    under e t = and-left (has bb e) (not (has (getD dead (getD at k 0) 0) e)) (sym (fo e) ∙ t)
+  pub disk : getD seats k 0 < disksMost
+  disk = omega (arith, seat, u .placed .disks)
 
-    pub trying : Trying n q k lo cut caps at loads
-    trying =
+  module _ {lower : ℕ} (p : LowerCopies k cut seats dead lower) where
+    pub trying : (freed : ℕ) → ((e : ℕ) → has freed e ≡ (eqb e (getD seats k 0) || has room e))
+        → Trying n q k lower (getD dead (getD seats k 0) 0) freed cut caps seats counts next prev out by
+    trying freed f =
         record {
-          bound = s .bound;
+          bound = u;
+          standing = s .standing;
           less = h;
-          part = λ e t. and-left (has (getD cut k 0) e) (has bl e) (sym (fb e) ∙ under e t);
+          part = lower-part p;
+          opened = λ d. f d ∙ rw (s .opened d) refl;
+          small = s .dead-for .small (getD seats k 0) seat;
+          apart = s .dead-for .apart (getD seats k 0) seat;
+          owned = s .dead-for .owned (getD seats k 0) seat;
         }
 
-    -- a lower copy is dead already, or is asked for
-    dead-or-asked : (y : ℕ) → ((e : ℕ) → has (getD dead (getD at k 0) 0) e ≡ true → has y e ≡ true) → (Inside lo y)
-        → (d : ℕ) → holds cut k d ≡ true → d < getD at k 0 → has y d ≡ true
-    dead-or-asked y f g d t l =
-        by-cases (has (getD dead (getD at k 0) 0) d)
-        (f d)
-        (λ u. g d (fo d ∙ and-both (has bb d) (not (has (getD dead (getD at k 0) 0) d))
-        (fb d ∙ and-both (has (getD cut k 0) d) (has bl d) t (fl d ∙ lt-ltb d (getD at k 0) l)) (ap not u)))
-
-    pub lowered-none : lo ≡ 0 → Lowered n q k cut caps at cut at loads dead false
-    lowered-none z =
-        record {
-          copies = refl;
-          sorting = s;
-          fewer = λ t. absurd (differ t refl);
-          lowest = λ _. lowest-by n q cut caps (s .bound .placed .disks) (s .bound .kept .small) at k (getD dead (getD at k 0) 0) h valid
-              (s .bound .within) (s .graves .owned (getD at k 0) seat) (s .graves .apart (getD at k 0) seat)
-              (dead-or-asked (getD dead (getD at k 0) 0) (λ e t. t)
-              (λ e t. absurd (differ t (ap (λ (y : ℕ). has y e) z ∙ has-zero e))));
-        }
-
-    pub lowered-went : (cut′ at′ loads′ : List ℕ) → Went n q k lo cut caps cut′ at′ loads′
-        → Lowered n q k cut caps at cut′ at′ loads′ dead true
-    lowered-went cut′ at′ loads′ w =
+    pub asked-lowered : {d freed : ℕ} {cut′ seats′ counts′ next′ prev′ out′ by′ : List ℕ} (r : ℕ)
+        → Lowered n q k lower freed cut caps cut′ seats′ counts′ next′ prev′ out′ by′ d → Open n caps counts′ r
+        → Asked n q k cut caps seats cut′ seats′ counts′ next′ prev′ out′ by′ dead r
+    asked-lowered {seats′} r w o =
         record {
           copies = w .copies;
-          sorting = record {
+          sorting = rw (w .copies) (record {
             bound = w .bound;
-            graves = record {
-              long = s .graves .long;
-              apart = s .graves .apart;
-              owned = λ o l. owned-any n q cut caps (s .bound .placed .disks) (s .bound .kept .small) (entry at) valid (s .bound .within)
-                  (entry at′) (bound-valid n q k cut caps at′ loads′ (w .bound)) (w .bound .within) (getD dead o 0) (s .graves .owned o l);
-            };
-          };
-          fewer = λ _. ltb-true (getD at′ k 0) (getD at k 0)
-              (sym (fl (getD at′ k 0)) ∙ and-right (has (getD cut k 0) (getD at′ k 0)) (has bl (getD at′ k 0))
-              (sym (fb (getD at′ k 0)) ∙ under (getD at′ k 0) (w .here)));
-          lowest = λ t. absurd (differ refl t);
+            standing = w .standing;
+            opened = o;
+            dead-for = dead-any (u .kept .small) (bound-valid u) (u .within) (bound-valid (w .bound)) (w .bound .within) (s .dead-for);
+          });
+          lower = inl (lower-less p (getD seats′ k 0) (w .here));
         }
 
-    pub lowered-stayed : (cut′ at′ loads′ dead′ : List ℕ) (x : ℕ) → Stayed n q k lo cut caps at loads cut′ at′ loads′ x
-        → Spread n x dead dead′ → Lowered n q k cut caps at cut′ at′ loads′ dead′ false
-    lowered-stayed cut′ at′ loads′ dead′ x w p =
-        let o = getD at k 0 in
-        let g = graves-spread n q x cut caps at dead dead′ (s .graves) (w .owned) p in
-        let more = p .more o seat (w .apart) in
-        subst (λ (y : List ℕ). Lowered n q k cut caps at cut′ y loads′ dead′ false) (sym (w .places))
-        (subst (λ (y : List ℕ). Lowered n q k cut caps at cut′ at y dead′ false) (sym (w .counts))
-        (record {
+    pub asked-stayed : {x : ℕ} {cut′ seats′ counts′ next′ prev′ out′ by′ dead′ : List ℕ}
+        → Stayed n q k lower cut caps seats counts cut′ seats′ counts′ next′ prev′ out′ by′ x → Spread n x dead dead′
+        → Asked n q k cut caps seats cut′ seats′ counts′ next′ prev′ out′ by′ dead′ room
+    asked-stayed {x} w g =
+        let more = g .more (getD seats k 0) seat (w .apart) in
+        let was = has (getD dead (getD seats k 0) 0) in
+        record {
           copies = w .copies;
-          sorting = record { bound = s .bound; graves = g };
-          fewer = λ t. absurd (differ t refl);
-          lowest = λ _. lowest-by n q cut caps (s .bound .placed .disks) (s .bound .kept .small) at k (getD dead′ o 0) h valid
-              (s .bound .within) (g .owned o seat) (g .apart o seat)
-              (dead-or-asked (getD dead′ o 0)
-              (λ e t. more e ∙ or-left (has (getD dead o 0) e) (has x e) t)
-              (λ e t. more e ∙ or-right (has (getD dead o 0) e) (has x e) (w .part e t)));
-        }))
+          sorting = rw (w .copies, w .same-seats, w .same-counts) (record {
+            bound = u;
+            standing = w .standing;
+            opened = s .opened;
+            dead-for = dead-spread (s .dead-for) (w .small) (w .owned) g;
+          });
+          lower = inr (
+            rw (w .same-seats) refl,
+            rw (w .copies, w .same-seats) (λ d t l. more d ∙ by-cases (was d)
+                (or-left (was d) (has x d))
+                (λ f. or-right (was d) (has x d) (w .part d (lower-here p d t l f)))),
+          );
+        }
 
   -- the block's copies are cut to its disk
-  pub done : (r : ℕ) → ((e : ℕ) → has r e ≡ eqb e (getD at k 0)) → LowestAt n q k cut caps at
-      → Done n q k cut caps (set cut k r) at loads dead
+  pub done : (r : ℕ) {next′ prev′ : List ℕ} → ((e : ℕ) → has r e ≡ eqb e (getD seats k 0)) → AllDead k cut seats dead
+      → Ringed n q (k + 1) seats next′ prev′ → Done n q k cut caps (set cut k r) seats counts next′ prev′ out by dead room
   unfolding Valid
-  done r f low =
-      let u = s .bound in
-      let here : getD (set cut k r) k 0 ≡ r = getD-set-same cut k r 0 (omega (arith, u .long, h, u .placed .blocks)) in
-      let else : (b : ℕ) → (b ≡ k → ⊥) → getD (set cut k r) b 0 ≡ getD cut b 0 = λ b n. getD-set-other cut k b r 0 n in
-      let is : (d : ℕ) → holds (set cut k r) k d ≡ eqb d (getD at k 0) = λ d. ap (λ (y : ℕ). has y d) here ∙ f d in
-      let only : (d : ℕ) → holds (set cut k r) k d ≡ true → d ≡ getD at k 0 = λ d t. eqb-true d (getD at k 0) (sym (is d) ∙ t) in
+  done r f low g =
+      let o : ℕ = getD seats k 0 in
+      let v : Valid n q (holds cut) (entry seats) = bound-valid u in
+      let is : k < length cut = omega (arith, u .long, h, u .placed .blocks) in
+      let part : Inside r (getD cut k 0) = λ d t. rw (eqb-true d o (sym (f d) ∙ t)) (v k h .1) in
+      let fewer = cut-fewer k r cut is part in
+      let here = cut-here k r cut is part in
+      let else = cut-else k r cut is part in
+      let only : (d : ℕ) → holds (set cut k r) k d ≡ true → d ≡ getD seats k 0 = λ d t. eqb-true d o (sym (f d) ∙ (rw here at t)) in
       record {
         sorting = record {
           bound = record {
-            placed = recopied n q cut (set cut k r) at loads (u .placed) (λ b l m c. by-cases (eqb b k)
-                (λ t. let e : b ≡ k = eqb-true b k t in
-                subst (λ (y : ℕ). holds (set cut k r) y (getD at y 0) ≡ true) (sym e)
-                (is (getD at k 0) ∙ eq-eqb (getD at k 0) (getD at k 0) refl))
-                (λ t. subst (λ (y : ℕ). has y (getD at b 0) ≡ true) (sym (else b (eqb-false b k t))) c));
+            placed = recopied (u .placed) (set cut k r) (λ b l m c. by-cases (eqb b k)
+                (λ t. rw (eqb-true b k t, here) (f o ∙ eq-eqb o o refl))
+                (λ t. rw (else b (eqb-false b k t)) c));
             whole = u .whole;
             within = u .within;
             kept = record {
               begins = omega (arith, h);
-              small = λ b d l c. by-cases (eqb b k)
-                  (λ t. let e : b ≡ k = eqb-true b k t in
-                  let z = only d (subst (λ (y : ℕ). holds (set cut k r) y d ≡ true) e c) in omega (arith, z, seat))
-                  (λ t. u .kept .small b d l (subst (λ (y : ℕ). has y d ≡ true) (else b (eqb-false b k t)) c));
-              bound = λ b l. by-cases (eqb b k)
-                  (λ t. let e : b ≡ k = eqb-true b k t in
-                  subst (λ (y : ℕ). (getD at y 0 < n) × ((d : ℕ) → holds (set cut k r) y d ≡ true → d ≡ getD at y 0)) (sym e)
-                  (seat, only))
-                  (λ t. let n′ = eqb-false b k t in
-                  let v = u .kept .bound b (omega arith) in
-                  (v .0, λ d c. v .1 d (subst (λ (y : ℕ). has y d ≡ true) (else b n′) c)));
+              small = λ b d l c. u .kept .small b d l (fewer b d c);
+              fixed = λ b l. by-cases (eqb b k)
+                  (λ t. rw (eqb-true b k t) (seat, only))
+                  (λ t. let w = u .kept .fixed b (let z = eqb-false b k t in omega arith) in (w .0, λ d c. w .1 d (fewer b d c)));
             };
             long = length-set cut k r ∙ u .long;
           };
-          graves = record {
-            long = s .graves .long;
-            apart = s .graves .apart;
-            owned = λ o l. owned-cut n q k cut (set cut k r) caps (entry at) (getD dead o 0) only else (s .graves .owned o l);
+          standing = record {
+            ringed = g;
+            far = far-less (k + 1 + 1) (set cut k r) (s .standing .far) (λ b l _ _. (omega arith, fewer b));
+            steps = s .standing .steps;
           };
+          opened = s .opened;
+          dead-for = dead-cut only else (s .dead-for);
         };
-        copy = valid k h .1;
-        cut-here = is;
-        cut-else = else;
-        lowest = low;
+        fewer = fewer;
+        later = λ b l. else b (omega arith);
+        lowest = lowest-by (u .kept .small) h v (u .within) (s .dead-for .owned o seat) (s .dead-for .apart o seat) low;
       }
+
+-- each time the block is asked it is on a lower disk, or there are no lower copies left
+pub asked-less : {n q k r lower lower′ : ℕ} {cut caps seats cut′ seats′ counts′ next′ prev′ out′ by′ dead′ : List ℕ}
+    → Asked n q k cut caps seats cut′ seats′ counts′ next′ prev′ out′ by′ dead′ r → (lower ≡ 0 → ⊥) → lower′ < 2 ^ disksMost
+    → LowerCopies k cut′ seats′ dead′ lower′
+    → getD seats′ k 0 * 2 ^ disksMost + lower′ < getD seats k 0 * 2 ^ disksMost + lower
+asked-less w z h p = ⊎-elim (λ l. omega arith) (λ e. omega (arith, e .0, none-lower p h (e .1))) (w .lower)
 
 -- ---- block after block
 
--- a list of zeros holds 0 everywhere
-pub zeros : (m o : ℕ) → _≡_ {A = ℕ} (getD (replicate m 0) o 0) 0
-zeros m o =
-    by-cases (ltb o m)
-    (λ t. getD-replicate m o 0 0 (ltb-true o m t))
-    (λ t. List·getD-eq-default (replicate m 0) 0 (omega (arith, ltb-false o m t, length-replicate {A = ℕ} m 0)))
-
--- the first k blocks are done, and those after have all their copies
-pub record Sorted (n q : ℕ) (masks caps : List ℕ) (k : ℕ) (cut at loads dead : List ℕ) : Type 0 where
-  pub sorting : Sorting n q k cut caps at loads dead
+-- the first k blocks are as low as any schedule has them; copies that are left are copies, and the blocks from k on have all of them
+pub record Sorted (n q : ℕ) (masks caps : List ℕ) (k : ℕ) (cut seats : List ℕ) : Type 0 where
+  pub fewer : (b d : ℕ) → holds cut b d ≡ true → holds masks b d ≡ true
   pub later : (b : ℕ) → k ≤ b → getD cut b 0 ≡ getD masks b 0
-  pub lowest : Lowest k (Possible n q masks caps) (entry at)
+  pub lowest : Lowest k (Possible n q masks caps) (entry seats)
 
-module _ (n q : ℕ) (masks caps : List ℕ) where
-  pub sorted-start : (at loads dead : List ℕ) → Bound n q 0 masks caps at loads → length dead ≡ 64
-      → ((o : ℕ) → getD dead o 0 ≡ 0) → Sorted n q masks caps 0 masks at loads dead
-  sorted-start at loads dead u l z =
-      let none : (o e : ℕ) → has (getD dead o 0) e ≡ false = λ o e. ap (λ (y : ℕ). has y e) (z o) ∙ has-zero e in
+module _ {n q : ℕ} {masks caps seats counts next prev out : List ℕ} (g : Scheduled n q masks caps seats counts next prev out) where
+  start-bound : Bound n q 0 masks caps seats counts
+  start-bound =
       record {
-        sorting = record {
-          bound = u;
-          graves = record {
-            long = l;
-            apart = λ o _. none o o;
-            owned = λ o _. record { full = λ d _ t. absurd (differ t (none o d)); owns = λ b _ t. absurd (differ t (none o (getD at b 0))) };
-          };
+        placed = g .seated .placed;
+        whole = g .whole;
+        within = g .within;
+        kept = record { begins = omega arith; small = g .small; fixed = λ b h. absurd (omega arith) };
+        long = g .long;
+      }
+
+  pub sorting-start : (room : ℕ) → Open n caps counts room
+      → Sorting n q 0 room masks caps seats counts next prev out (replicate placesMost 0) (replicate disksMost 0)
+  sorting-start room o =
+      let none : (o e : ℕ) → o < n → has (getD (replicate disksMost 0) o 0) e ≡ true → ⊥ = λ o e l t.
+      differ (rw (getD-replicate {A = ℕ} disksMost o 0 0 (omega (arith, g .seated .placed .disks))) at t) (has-zero e) in
+      record {
+        bound = start-bound;
+        standing = record {
+          ringed = g .seated .ringed;
+          far = far-less 1 masks (g .seated .far) (λ b h _ _. (omega arith, λ d t. t));
+          steps = length-replicate {A = ℕ} placesMost 0;
         };
-        later = λ b _. refl;
-        lowest = lowest-start (Possible n q masks caps) (entry at) (bound-valid n q 0 masks caps at loads u, u .within);
+        opened = o;
+        dead-for = record {
+          long = length-replicate {A = ℕ} disksMost 0;
+          small = λ o l d t. absurd (none o d l t);
+          apart = λ o l. not-here (has (getD (replicate disksMost 0) o 0) o) (none o o l);
+          owned = λ o l. record { full = λ d _ t. absurd (none o d l t); owns = λ b _ t. absurd (none o (getD seats b 0) l t) };
+        };
       }
 
-  pub sorted-end : (k : ℕ) (cut at loads dead : List ℕ) → k ≡ q → Sorted n q masks caps k cut at loads dead → Ordered n q masks caps at
-  unfolding Valid
-  sorted-end k cut at loads dead e s =
+  pub sorted-start : Sorted n q masks caps 0 masks seats
+  sorted-start =
       record {
-        seats = λ b h. s .lowest .holds .0 b h .0;
-        first = lowest-first (Possible n q masks caps) q (entry at)
-            (subst (λ (y : ℕ). Lowest y (Possible n q masks caps) (entry at)) e (s .lowest));
+        fewer = λ b d t. t;
+        later = λ b l. refl;
+        lowest = lowest-start (Possible n q masks caps) (entry seats) (bound-valid start-bound, g .within);
       }
 
-  pub sorted-more : (k : ℕ) (cut at loads dead cut′ at′ loads′ dead′ : List ℕ) → k < q → Sorted n q masks caps k cut at loads dead
-      → Done n q k cut caps cut′ at′ loads′ dead′ → Sorted n q masks caps (k + 1) cut′ at′ loads′ dead′
-  unfolding Valid Agree
-  sorted-more k cut at loads dead cut′ at′ loads′ dead′ h s d =
-      let v : Valid n q (holds cut) (entry at) = bound-valid n q k cut caps at loads (s .sorting .bound) in
-      let v′ : Valid n q (holds cut′) (entry at′) = bound-valid n q (k + 1) cut′ caps at′ loads′ (d .sorting .bound) in
-      let keeps : (b : ℕ) → b < k → getD at′ b 0 ≡ getD at b 0 = λ b l.
-      s .sorting .bound .kept .bound b l .1 (getD at′ b 0)
-      (subst (λ (y : ℕ). has y (getD at′ b 0) ≡ true) (d .cut-else b (omega arith)) (v′ b (omega arith) .1)) in
-      let possible : Possible n q masks caps (entry at′) = (
-        λ b l. (
-          v′ b l .0,
-          by-cases (ltb b k)
-              (λ t. let m = ltb-true b k t in
-              subst (λ (y : ℕ). holds masks b y ≡ true) (sym (keeps b m)) (s .lowest .holds .0 b l .1))
-              (λ t. by-cases (eqb b k)
-              (λ r. let e : b ≡ k = eqb-true b k r in
-              subst (λ (y : ℕ). holds masks y (getD at′ y 0) ≡ true) (sym e)
-              (subst (λ (y : ℕ). has y (getD at′ k 0) ≡ true) (s .later k (omega arith)) (d .copy)))
-              (λ r. subst (λ (y : ℕ). has y (getD at′ b 0) ≡ true)
-              (d .cut-else b (eqb-false b k r) ∙ s .later b (ltb-false b k t)) (v′ b l .1))),
-        ),
-        d .sorting .bound .within,
-      ) in
-      let kept : Lowest k (Possible n q masks caps) (entry at′) =
-      lowest-keep (Possible n q masks caps) k (entry at) (entry at′) (s .lowest) possible keeps in
-      record {
-        sorting = d .sorting;
-        later = λ b l. d .cut-else b (omega arith) ∙ s .later b (omega arith);
-        lowest = subst (λ (y : ℕ). Lowest y (Possible n q masks caps) (entry at′)) (sym (add-one k))
-            (lowest-more (Possible n q masks caps) k (entry at′) kept (λ a p g.
-            d .lowest a
-            (λ b l. (
-              p .0 b l .0,
-              by-cases (ltb b k)
-                  (λ t. let m = ltb-true b k t in
-                  subst (λ (y : ℕ). holds cut b y ≡ true) (sym (g b m ∙ keeps b m)) (v b l .1))
-                  (λ t. subst (λ (y : ℕ). has y (a b) ≡ true) (sym (s .later b (ltb-false b k t))) (p .0 b l .1)),
-            ))
-            (p .1)));
-      }
+pub sorted-end : {n q : ℕ} {masks caps cut seats : List ℕ} → Sorted n q masks caps q cut seats → Ordered n q masks caps seats
+unfolding Valid
+sorted-end {n} {q} {masks} {caps} {cut} {seats} s =
+    record {
+      disks = λ b h. s .lowest .holds .0 b h .0;
+      first = lowest-first (Possible n q masks caps) q (entry seats) (s .lowest);
+    }
+
+pub sorted-more : {n q k r : ℕ} {masks caps cut seats counts cut′ seats′ counts′ next′ prev′ out′ by′ dead′ : List ℕ} → k < q
+    → Bound n q k cut caps seats counts → Done n q k cut caps cut′ seats′ counts′ next′ prev′ out′ by′ dead′ r
+    → Sorted n q masks caps k cut seats → Sorted n q masks caps (k + 1) cut′ seats′
+unfolding Valid Agree
+sorted-more {n} {q} {k} {r} {masks} {caps} {cut} {seats} {counts} {cut′} {seats′} h u d s =
+    let P = Possible n q masks caps in
+    let v = bound-valid u in
+    let v′ = bound-valid (d .sorting .bound) in
+    let keeps : (b : ℕ) → b < k → getD seats′ b 0 ≡ getD seats b 0 =
+    λ b l. u .kept .fixed b l .1 (getD seats′ b 0) (d .fewer b (getD seats′ b 0) (v′ b (omega arith) .1)) in
+    let fewer : (b e : ℕ) → holds cut′ b e ≡ true → holds masks b e ≡ true = λ b e t. s .fewer b e (d .fewer b e t) in
+    let possible : P (entry seats′) = (λ b l. (v′ b l .0, fewer b (getD seats′ b 0) (v′ b l .1)), d .sorting .bound .within) in
+    record {
+      fewer = fewer;
+      later = λ b l. d .later b (omega arith) ∙ s .later b (omega arith);
+      lowest = rw (add-one k) (lowest-more P k (entry seats′) (lowest-keep P k (entry seats) (entry seats′) (s .lowest) possible keeps)
+          (λ a p g. d .lowest a
+          (λ b l. (
+            p .0 b l .0,
+            by-cases (ltb b k)
+                (λ t. let m = ltb-true b k t in rw (g b m ∙ keeps b m) (v b l .1))
+                (λ t. rw (s .later b (ltb-false b k t)) (p .0 b l .1)),
+          ))
+          (p .1)));
+    }

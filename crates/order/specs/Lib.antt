@@ -1,2 +1,2 @@
-pub mod Sorting
-pub mod Turn
+pub mod Ordered
+pub mod Parts

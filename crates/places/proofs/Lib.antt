@@ -1,6 +1,8 @@
 pub mod Laws
+pub mod Among
 pub mod Masks
-pub mod Ranks
-pub mod Turns
-pub mod Labels
-pub mod Steps
+pub mod Room
+pub mod Seats
+pub mod Shifts
+pub mod Clearing
+pub mod Unique

@@ -1,3 +1,6 @@
 pub mod Places
-pub mod Search
-pub mod Outcome
+pub mod Table
+pub mod Among
+pub mod Seats
+pub mod Room
+pub mod Parts

@@ -1,11 +1,6 @@
-pub mod Filling
-pub mod Spell
-pub mod Adding
-pub mod Bounds
-pub mod Checking
-pub mod Receiving
-pub mod Drafting
-pub mod Sending
+pub mod Reading
+pub mod Accepted
+pub mod Writing
 pub mod Longest
 pub mod RoundTrip
 pub mod Unique

@@ -24,7 +24,8 @@ told-injective bytes (Refused r) (Accepted k) e = cc
 told-injective bytes (Refused r) (Refused q) e = let n : numberOf r ≡ numberOf q = cc in ap Refused (number-injective r q n)
 
 -- `read`: the answer and both lists
-pub read-unique : (sheet : Out Plan) (bytes : ℕ) (disks short : List ℕ) (a b : Answer) (d e m n : List ℕ) → Received sheet bytes disks short a d m → Received sheet bytes disks short b e n → (a ≡ b) × (d ≡ e) × (m ≡ n)
+pub read-unique : (sheet : Out Plan) (bytes : ℕ) (disks short : List ℕ) (a b : Answer) (d e m n : List ℕ)
+    → Received sheet bytes disks short a d m → Received sheet bytes disks short b e n → (a ≡ b) × (d ≡ e) × (m ≡ n)
 read-unique sheet bytes disks short a b d e m n p q = (
   told-injective bytes a b (p .answer ∙ sym (q .answer)),
   p .blocks ∙ sym (q .blocks),
@@ -32,5 +33,6 @@ read-unique sheet bytes disks short a b d e m n p q = (
 )
 
 -- `write`: the answer and the buffer
-pub write-unique : (unit t : ℕ) (p : Plan) (out : List ℕ) (a b : Written) (x y : List ℕ) → Sent (planDraft unit t p) out a x → Sent (planDraft unit t p) out b y → (a ≡ b) × (x ≡ y)
+pub write-unique : (unit t : ℕ) (p : Plan) (out : List ℕ) (a b : Written) (x y : List ℕ) → Sent (planDraft unit t p) out a x
+    → Sent (planDraft unit t p) out b y → (a ≡ b) × (x ≡ y)
 write-unique unit t p out a b x y f g = sent-unique (planDraft unit t p) out a b x y f g

@@ -4,6 +4,7 @@ use mathlib.Core.Bool.{Bool, _&&_}
 use mathlib.Core.List.{List, _∷_, _++_}
 use lib.ListN.{length}
 use lib.Dec.{leb}
+use Rattle.basics.specs.Limits.{blocksMost}
 use Rattle.basics.specs.Choice.{pick}
 use Rattle.number.specs.Encode.{encode}
 use Rattle.field.specs.Put.{spellAll}
@@ -21,7 +22,7 @@ planBytes unit t p = spellAll encode (planNumbers unit t p)
 
 -- whether Q and m are at most 1,024
 unfoldable pub counted : Plan → Bool
-counted p = leb (length (p .disks)) 1024 && leb (length (p .short)) 1024
+counted p = leb (length (p .disks)) blocksMost && leb (length (p .short)) blocksMost
 
 -- the sheet of whatever values are given; 6 where Q or m is above 1,024
 unfoldable pub planDraft : ℕ → ℕ → Plan → Draft

@@ -3,5 +3,4 @@ pub mod Range
 pub mod Told
 pub mod Receive
 pub mod Draft
-pub mod Frame
-pub mod Adds
+pub mod Parts

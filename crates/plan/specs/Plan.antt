@@ -1,11 +1,13 @@
 -- The plan sheet.
 --     Plan         a plan's values: its time, a disk for each block, and its short set
---     timeOf, sizeOf          R and m, for Q blocks
+--     planOf       a plan with these values
+--     disk, timeOf, sizeOf    a disk's number; R and m, for Q blocks
 --     listsOf                 the fields behind R
 --     planFields              all fields in order
 --     planSheet    the sheet of a plan, for a unit and a tenancy
 use Prim.Native.Nat.{ℕ, zero, suc, _-_}
-use mathlib.Core.List.{List}
+use mathlib.Core.List.{List, [], _∷_}
+use Rattle.basics.specs.Limits.{disksMost, blocksMost, timeMost}
 use Rattle.field.specs.Sheet.{Parser, _>>=_, _>>_, pure, times}
 use Rattle.field.specs.Field.{opening, inside, ascending, whole}
 
@@ -14,6 +16,14 @@ pub record Plan : Type 0 where
   pub disks : List ℕ
   pub short : List ℕ
 
+-- a plan with these values
+abbrev pub planOf : ℕ → List ℕ → List ℕ → Plan
+planOf r ds bs = record { time = r; disks = ds; short = bs }
+
+-- a disk's number; the sheet does not say N
+abbrev pub disk : Parser ℕ
+disk = inside 0 (disksMost - 1) 6
+
 -- a bound for at least one block; for no blocks it is 0
 unfoldable pub ifAny : ℕ → ℕ → ℕ
 ifAny zero n = 0
@@ -21,25 +31,25 @@ ifAny (suc q) n = n
 
 -- R is 1 to 1,125,000,000, and 0 exactly for Q = 0
 unfoldable pub timeOf : ℕ → Parser ℕ
-timeOf q = inside (ifAny q 1) (ifAny q 1125000000)
+timeOf q = inside (ifAny q 1) (ifAny q timeMost) 6
 
 -- m is 1 to Q, and 0 exactly for Q = 0
 unfoldable pub sizeOf : ℕ → Parser ℕ
-sizeOf q = inside (ifAny q 1) q
+sizeOf q = inside (ifAny q 1) q 6
 
 -- a disk number for each block, short set size m, m block numbers, rising
 unfoldable pub listsOf : ℕ → ℕ → Parser Plan
 listsOf q r = do
-  ds ← times q (inside 0 63)
+  ds ← times q disk
   m ← sizeOf q
   bs ← ascending m 0 (q - 1)
-  pure (record { time = r; disks = ds; short = bs })
+  pure (planOf r ds bs)
 
 -- kind 3, unit, tenancy, Q, R and the lists
 unfoldable pub planFields : ℕ → ℕ → Parser Plan
 planFields unit t = do
-  opening 3 unit t
-  q ← inside 0 1024
+  opening (3 ∷ []) unit t
+  q ← inside 0 blocksMost 6
   r ← timeOf q
   listsOf q r
 

@@ -1,22 +1,24 @@
 // The plan sheet: read into two lent lists, written from what a planner found.
+use basics::BLOCKS;
+use basics::DISKS;
+use basics::TIME_MOST;
 use field::Field;
 use field::Refusal;
 use field::Written;
 ghost use mathlib.Core.Path.{_≡_};
-ghost use mathlib.Core.List.{[], _∷_};
-ghost use Prim.Native.Nat.{ℕ, _-_, _≤_, _<_};
+ghost use Prim.Native.Nat.{ℕ, _+_, _-_, _≤_, _<_};
 ghost use lib.ListN.{length};
+ghost use Rattle.basics.specs.Limits.{blocksMost};
 ghost use Rattle.number.specs.Encode.{encode};
 ghost use Rattle.field.specs.Sheet.{got, times};
-ghost use Rattle.field.specs.Field.{inside, ascending, whole};
-ghost use Rattle.field.specs.Put.{spellAll};
+ghost use Rattle.field.specs.Field.{ascending, whole};
+ghost use Rattle.field.specs.Put.{spellAll, Laid};
 ghost use Rattle.field.specs.Send.{Sent};
 ghost use Rattle.field.specs.Told.{told};
-ghost use Rattle.plan.specs.Plan.{Plan, ifAny, listsOf, planSheet};
+ghost use Rattle.plan.specs.Plan.{Plan, planOf, disk, ifAny, listsOf, planSheet};
 ghost use Rattle.plan.specs.Receive.{Received};
 ghost use Rattle.plan.specs.Draft.{planBytes, planDraft};
-ghost use Rattle.plan.specs.Frame.{ended, Filled, Framed, Checked};
-ghost use Rattle.plan.specs.Adds.{Adds};
+ghost use Rattle.plan.specs.Parts.{ended, Filled, Framed, Checked, headingBytes};
 
 // What an accepted plan sheet says, beside its two lists.
 pub struct Head {
@@ -66,13 +68,13 @@ fn last(q: u32) -> u32
 // The disks of q blocks, put at the start of a list.
 fn read_disks(s: &[u8], at: usize, q: u32, out: &mut [u8]) -> Field
     requires { ⌜ q ≤ length (now out) ⌝ }
-    ensures { λ r. ⌜ Filled (times q (inside 0 63) (now (s .entry)) at) (now (out .entry)) r (now (out .exit)) ⌝ }
+    ensures { λ r. ⌜ Filled (times q disk (now (s .entry)) at) (now (out .entry)) r (now (out .exit)) ⌝ }
 {
     let n = q as usize;
     let mut p = at;
     let mut i: usize = 0;
     while i < n {
-        match field::ranged(s, p, 0, 63) {
+        match field::inside(s, p, 0, DISKS as u32 - 1, Refusal::OutOfRange) {
             Field::Got(v, next) => {
                 out[i] = v as u8;
                 p = next;
@@ -86,7 +88,7 @@ fn read_disks(s: &[u8], at: usize, q: u32, out: &mut [u8]) -> Field
 
 // The m rising block numbers up to the last one, put at the start of a list.
 fn read_short(s: &[u8], at: usize, m: u32, high: u32, out: &mut [u16]) -> Field
-    requires { ⌜ (m ≤ length (now out)) × (high < 1024) ⌝ }
+    requires { ⌜ (m ≤ length (now out)) × (high < blocksMost) ⌝ }
     ensures { λ r. ⌜ Filled (ascending m 0 high (now (s .entry)) at) (now (out .entry)) r (now (out .exit)) ⌝ }
 {
     let n = m as usize;
@@ -94,7 +96,7 @@ fn read_short(s: &[u8], at: usize, m: u32, high: u32, out: &mut [u16]) -> Field
     let mut floor: u32 = 0;
     let mut i: usize = 0;
     while i < n {
-        match field::risen(s, p, floor, high) {
+        match field::rising(s, p, floor, high) {
             Field::Got(v, next) => {
                 out[i] = v as u16;
                 p = next;
@@ -109,32 +111,32 @@ fn read_short(s: &[u8], at: usize, m: u32, high: u32, out: &mut [u16]) -> Field
 
 // The place after the disks of q blocks.
 fn past_disks(s: &[u8], at: usize, q: u32) -> Field
-    requires { ⌜ q ≤ 1024 ⌝ }
-    ensures { λ r. ⌜ told r ≡ ended (times q (inside 0 63) (now (s .entry)) at) ⌝ }
+    requires { ⌜ q ≤ blocksMost ⌝ }
+    ensures { λ r. ⌜ told r ≡ ended (times q disk (now (s .entry)) at) ⌝ }
 {
-    let mut scratch = [0u8; 1024];
+    let mut scratch = [0u8; BLOCKS];
     read_disks(s, at, q, &mut scratch)
 }
 
 // The short set's blocks, and then the end of the sheet.
 fn short_last(s: &[u8], at: usize, m: u32, q: u32) -> Field
-    requires { ⌜ (m ≤ q) × (q ≤ 1024) ⌝ }
+    requires { ⌜ (m ≤ q) × (q ≤ blocksMost) ⌝ }
     ensures { λ r. ⌜ told r ≡ ended (whole (ascending m 0 (q - 1)) (now (s .entry)) at) ⌝ }
 {
-    let mut scratch = [0u16; 1024];
+    let mut scratch = [0u16; BLOCKS];
     match read_short(s, at, m, last(q), &mut scratch) {
-        Field::Got(_, next) => field::finish(s, next),
+        Field::Got(_, next) => field::end(s, next),
         Field::Refused(e) => Field::Refused(e),
     }
 }
 
 // What follows the time: the disks, and the short set with its size.
 fn lists(s: &[u8], at: usize, q: u32, time: u32) -> Found
-    requires { ⌜ q ≤ 1024 ⌝ }
+    requires { ⌜ q ≤ blocksMost ⌝ }
     ensures { λ r. ⌜ Checked (now (s .entry)) (whole (listsOf q time) (now (s .entry)) at) r ⌝ }
 {
     match past_disks(s, at, q) {
-        Field::Got(_, p) => match field::ranged(s, p, if_any(q, 1), q) {
+        Field::Got(_, p) => match field::inside(s, p, if_any(q, 1), q, Refusal::OutOfRange) {
             Field::Got(m, next) => match short_last(s, next, m, q) {
                 Field::Got(_, _) => Found::Whole(Frame {
                     blocks: q,
@@ -155,9 +157,15 @@ fn lists(s: &[u8], at: usize, q: u32, time: u32) -> Found
 fn check(s: &[u8], unit: u32, tenancy: u32) -> Found
     ensures { λ r. ⌜ Checked (now (s .entry)) (planSheet unit tenancy (now (s .entry)) 0) r ⌝ }
 {
-    match field::opening(s, 3, unit, tenancy) {
-        Field::Got(_, at) => match field::ranged(s, at, 0, 1024) {
-            Field::Got(q, p) => match field::ranged(s, p, if_any(q, 1), if_any(q, 1_125_000_000)) {
+    match field::opening(s, &[3], unit, tenancy) {
+        Field::Got(_, at) => match field::inside(s, at, 0, BLOCKS as u32, Refusal::OutOfRange) {
+            Field::Got(q, p) => match field::inside(
+                s,
+                p,
+                if_any(q, 1),
+                if_any(q, TIME_MOST),
+                Refusal::OutOfRange,
+            ) {
                 Field::Got(r, next) => lists(s, next, q, r),
                 Field::Refused(e) => Found::Refused(e),
             },
@@ -169,8 +177,9 @@ fn check(s: &[u8], unit: u32, tenancy: u32) -> Found
 
 // Fills the lent lists from a sheet that was read to its end, or refuses with 11.
 fn fill(s: &[u8], f: Frame, disks: &mut [u8], short: &mut [u16]) -> Answer
-    requires { ⌜ f .blocks ≤ 1024 ⌝ }
-    ensures { λ r. ⌜ ((p : Plan) (e : ℕ) → Framed (now (s .entry)) p f → Received (got p e) e (now (disks .entry)) (now (short .entry)) r (now (disks .exit)) (now (short .exit))) ⌝ }
+    requires { ⌜ f .blocks ≤ blocksMost ⌝ }
+    ensures { λ r. ⌜ ((p : Plan) (e : ℕ) → Framed (now (s .entry)) p f
+        → Received (got p e) e (now (disks .entry)) (now (short .entry)) r (now (disks .exit)) (now (short .exit))) ⌝ }
 {
     let q = f.blocks;
     let m = f.size;
@@ -194,7 +203,8 @@ fn fill(s: &[u8], f: Frame, disks: &mut [u8], short: &mut [u16]) -> Answer
 
 // Reads a plan sheet for a unit and a tenancy. The sheet is read to its end before a lent list is touched.
 pub fn read(s: &[u8], unit: u32, tenancy: u32, disks: &mut [u8], short: &mut [u16]) -> Answer
-    ensures { λ r. ⌜ Received (planSheet unit tenancy (now (s .entry)) 0) (length (now (s .entry))) (now (disks .entry)) (now (short .entry)) r (now (disks .exit)) (now (short .exit)) ⌝ }
+    ensures { λ r. ⌜ Received (planSheet unit tenancy (now (s .entry)) 0) (length (now (s .entry))) (now (disks .entry))
+        (now (short .entry)) r (now (disks .exit)) (now (short .exit)) ⌝ }
 {
     match check(s, unit, tenancy) {
         Found::Whole(f) => fill(s, f, disks, short),
@@ -204,7 +214,7 @@ pub fn read(s: &[u8], unit: u32, tenancy: u32, disks: &mut [u8], short: &mut [u1
 
 // The bytes of the disks' numbers.
 fn disks_width(xs: &[u8]) -> usize
-    requires { ⌜ length (now xs) ≤ 1024 ⌝ }
+    requires { ⌜ length (now xs) ≤ blocksMost ⌝ }
     ensures { λ r. ⌜ r ≡ length (spellAll encode (now (xs .entry))) ⌝ }
 {
     let mut n: usize = 0;
@@ -218,7 +228,7 @@ fn disks_width(xs: &[u8]) -> usize
 
 // The bytes of the short set's numbers.
 fn short_width(xs: &[u16]) -> usize
-    requires { ⌜ length (now xs) ≤ 1024 ⌝ }
+    requires { ⌜ length (now xs) ≤ blocksMost ⌝ }
     ensures { λ r. ⌜ r ≡ length (spellAll encode (now (xs .entry))) ⌝ }
 {
     let mut n: usize = 0;
@@ -230,9 +240,10 @@ fn short_width(xs: &[u16]) -> usize
     n
 }
 
-// Writes the disks one after another and answers the place after them.
+// Puts the disks one after another and answers the place after them.
 fn put_disks(xs: &[u8], out: &mut [u8], at: usize) -> usize
-    ensures { λ r. ⌜ Adds (now (xs .entry)) (now (out .entry)) at (now (out .exit)) r ⌝ }
+    requires { ⌜ at + length (spellAll encode (now xs)) ≤ length (now out) ⌝ }
+    ensures { λ r. ⌜ Laid (now (out .entry)) at (spellAll encode (now (xs .entry))) (now (out .exit)) r ⌝ }
 {
     let mut p = at;
     let mut i: usize = 0;
@@ -243,9 +254,10 @@ fn put_disks(xs: &[u8], out: &mut [u8], at: usize) -> usize
     p
 }
 
-// Writes the short set's blocks one after another and answers the place after them.
+// Puts the short set's blocks one after another and answers the place after them.
 fn put_short(xs: &[u16], out: &mut [u8], at: usize) -> usize
-    ensures { λ r. ⌜ Adds (now (xs .entry)) (now (out .entry)) at (now (out .exit)) r ⌝ }
+    requires { ⌜ at + length (spellAll encode (now xs)) ≤ length (now out) ⌝ }
+    ensures { λ r. ⌜ Laid (now (out .entry)) at (spellAll encode (now (xs .entry))) (now (out .exit)) r ⌝ }
 {
     let mut p = at;
     let mut i: usize = 0;
@@ -256,29 +268,30 @@ fn put_short(xs: &[u16], out: &mut [u8], at: usize) -> usize
     p
 }
 
-// The fields before the disks.
-fn put_head(unit: u32, tenancy: u32, q: u32, time: u32, out: &mut [u8]) -> usize
-    requires { ⌜ length (spellAll encode (3 ∷ unit ∷ tenancy ∷ q ∷ time ∷ [])) ≤ length (now out) ⌝ }
-    ensures { λ r. ⌜ Adds (3 ∷ unit ∷ tenancy ∷ q ∷ time ∷ []) (now (out .entry)) 0 (now (out .exit)) r ⌝ }
+// Puts the fields before the disks.
+fn put_heading(unit: u32, tenancy: u32, q: u32, time: u32, out: &mut [u8]) -> usize
+    requires { ⌜ length (headingBytes unit tenancy q time) ≤ length (now out) ⌝ }
+    ensures { λ r. ⌜ Laid (now (out .entry)) 0 (headingBytes unit tenancy q time) (now (out .exit)) r ⌝ }
 {
     let a = field::put_opening(3, unit, tenancy, out);
     let b = field::put(q, out, a);
     field::put(time, out, b)
 }
 
+// The bytes of the fields before the disks.
+fn heading_width(unit: u32, tenancy: u32, q: u32, time: u32) -> usize
+    ensures { λ r. ⌜ r ≡ length (headingBytes unit tenancy q time) ⌝ }
+{
+    1 + number::width(unit) + number::width(tenancy) + number::width(q) + number::width(time)
+}
+
 // The length of the sheet.
 fn sheet_width(unit: u32, tenancy: u32, time: u32, disks: &[u8], short: &[u16]) -> usize
-    requires { ⌜ (length (now disks) ≤ 1024) × (length (now short) ≤ 1024) ⌝ }
-    ensures { λ r. ⌜ r ≡ length (planBytes unit tenancy (record { time = time; disks = now (disks .entry); short = now (short .entry) })) ⌝ }
+    requires { ⌜ (length (now disks) ≤ blocksMost) × (length (now short) ≤ blocksMost) ⌝ }
+    ensures { λ r. ⌜ r ≡ length (planBytes unit tenancy (planOf time (now (disks .entry)) (now (short .entry)))) ⌝ }
 {
-    let q = disks.len() as u32;
-    let m = short.len() as u32;
-    let head = number::width(3)
-        + number::width(unit)
-        + number::width(tenancy)
-        + number::width(q)
-        + number::width(time);
-    head + disks_width(disks) + number::width(m) + short_width(short)
+    let head = heading_width(unit, tenancy, disks.len() as u32, time);
+    head + disks_width(disks) + number::width(short.len() as u32) + short_width(short)
 }
 
 // Writes the plan sheet of what is given. The length is found first, so that a refusal has changed nothing.
@@ -290,18 +303,19 @@ pub fn write(
     short: &[u16],
     out: &mut [u8],
 ) -> Written
-    ensures { λ r. ⌜ Sent (planDraft unit tenancy (record { time = time; disks = now (disks .entry); short = now (short .entry) })) (now (out .entry)) r (now (out .exit)) ⌝ }
+    ensures { λ r. ⌜ Sent (planDraft unit tenancy (planOf time (now (disks .entry)) (now (short .entry))))
+        (now (out .entry)) r (now (out .exit)) ⌝ }
 {
-    if 1024 < disks.len() {
+    if BLOCKS < disks.len() {
         return Written::Refused(Refusal::OutOfRange);
     }
-    if 1024 < short.len() {
+    if BLOCKS < short.len() {
         return Written::Refused(Refusal::OutOfRange);
     }
     if out.len() < sheet_width(unit, tenancy, time, disks, short) {
         return Written::Refused(Refusal::NoRoom);
     }
-    let a = put_head(unit, tenancy, disks.len() as u32, time, out);
+    let a = put_heading(unit, tenancy, disks.len() as u32, time, out);
     let b = put_disks(disks, out, a);
     let c = field::put(short.len() as u32, out, b);
     Written::Length(put_short(short, out, c))

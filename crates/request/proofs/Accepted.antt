@@ -1,7 +1,7 @@
 -- What an accepted request says: for those who call the reader.
---     block-sendable                             what is known of a block that was read, whatever the bytes
+--     block-sendable, sheet-blocks               what is known of a block that was read, whatever the bytes
 --     Accepts, accepted                          what is known of the copies that are handed out
---     accepted-at, accepted-beyond               the same of one place
+--     accepted-at                                the same of one block
 --     refused-sheet                              what a refusal says of the sheet
 use mathlib.Core.Path.{_≡_, sym, ap, _∙_, subst}
 use mathlib.Core.List.{List, _++_}
@@ -17,7 +17,8 @@ use Rattle.mask.proofs.Members.{members-zero}
 use Rattle.field.specs.declared.Refusal.{Refusal}
 use Rattle.field.specs.Refusal.{numberOf}
 use Rattle.field.specs.Sheet.{Out, got, refused}
-use Rattle.field.proofs.Values.{ascending-rises, times-all, all-at}
+use Rattle.basics.proofs.Lists.{all-at}
+use Rattle.field.proofs.Values.{ascending-rises, times-all}
 use Rattle.basics.specs.Lists.{All, Rises}
 use Rattle.request.specs.declared.Answer.the-variants.{Accepted, Refused}
 use Rattle.request.specs.declared.Request.{Request}
@@ -25,38 +26,39 @@ use Rattle.request.specs.Disks.{maskOf, disksOf}
 use Rattle.request.specs.Request.{lastDisk, block, requestSheet}
 use Rattle.request.specs.Told.{toldAnswer, counted, padded, Answered}
 use Rattle.request.proofs.Disks.{disks-mask, mask-under}
-use Rattle.request.proofs.Writing.{disks-count}
-use Rattle.request.proofs.Reading.{last-few, last-all, last-le, Listed, block-got, Whole, sheet-got}
-use Rattle.request.proofs.Drafting.{Sendable}
+use Rattle.request.proofs.Writing.{disks-count, Sendable}
+use Rattle.request.proofs.Reading.{last-under, last-few, last-all, Listed, block-got, Whole, sheet-got}
+use Rattle.basics.specs.Limits.{disksMost, blocksMost, copiesMost}
 
 -- ---- whatever the bytes
 
 -- the last disk of N, where N is in its range
-pub last-of : (n : ℕ) → (n ≡ 0 → ⊥) → n ≤ 64 → lastDisk n + 1 ≡ n
+pub last-of : (n : ℕ) → (n ≡ 0 → ⊥) → n ≤ disksMost → lastDisk n + 1 ≡ n
 last-of n z l =
-    by-cases (ltb n 64)
-    (λ t. omega (arith, last-few n (ltb-true n 64 t), z))
-    (λ f. let e : 64 ≤ n = ltb-false n 64 f in omega (arith, last-all n e))
+    by-cases (ltb n disksMost)
+    (λ t. omega (arith, last-few n (ltb-true n disksMost t), z))
+    (λ f. let e : disksMost ≤ n = ltb-false n disksMost f in omega (arith, last-all n e))
 
 -- as many disks as bits
-pub count-of : (m : ℕ) → length (disksOf m) ≡ members 64 m
+pub count-of : (m : ℕ) → length (disksOf m) ≡ members disksMost m
 unfolding disksOf
-count-of m = disks-count m 64
+count-of m = disks-count m disksMost
 
 -- the copies of a rising list can be sent
-sendable : (n : ℕ) → (n ≡ 0 → ⊥) → n ≤ 64 → (k : ℕ) (ds : List ℕ) → Rises 0 (lastDisk n) ds → length ds ≡ k → (k ≡ 0 → ⊥) → k ≤ 8
+sendable : (n : ℕ) → (n ≡ 0 → ⊥) → n ≤ disksMost → (k : ℕ) (ds : List ℕ) → Rises 0 (lastDisk n) ds → length ds ≡ k
+    → (k ≡ 0 → ⊥) → k ≤ copiesMost
     → Sendable n (maskOf ds)
 sendable n known within k ds r e some few =
-    let same : disksOf (maskOf ds) ≡ ds = disks-mask (lastDisk n) ds (last-le n) r in
-    let count : members 64 (maskOf ds) ≡ k = sym (count-of (maskOf ds)) ∙ ap length same ∙ e in
+    let same : disksOf (maskOf ds) ≡ ds = disks-mask (lastDisk n) ds (last-under n) r in
+    let count : members disksMost (maskOf ds) ≡ k = sym (count-of (maskOf ds)) ∙ ap length same ∙ e in
     record {
-      some = λ z. some (sym count ∙ ap (members 64) z ∙ members-zero 64);
+      some = λ z. some (sym count ∙ ap (members disksMost) z ∙ members-zero disksMost);
       few = omega (arith, count);
       under = subst (λ (j : ℕ). maskOf ds < 2 ^ j) (last-of n known within)
           (omega (arith, mask-under 0 (lastDisk n) 0 ds r (omega arith) (omega arith)));
     }
 
-pub block-sendable : (n : ℕ) → (n ≡ 0 → ⊥) → n ≤ 64 → (s : List ℕ) (at m e : ℕ) → block (lastDisk n) s at ≡ got m e → Sendable n m
+pub block-sendable : (n : ℕ) → (n ≡ 0 → ⊥) → n ≤ disksMost → (s : List ℕ) (at m e : ℕ) → block (lastDisk n) s at ≡ got m e → Sendable n m
 block-sendable n known within s at m e h =
     let w : Listed (lastDisk n) s at m e = block-got (lastDisk n) s at m e h in
     let r : (length (w .disks) ≡ w .count)
@@ -68,14 +70,14 @@ block-sendable n known within s at m e h =
 pub record Accepts (unit t n : ℕ) (s : List ℕ) (q : ℕ) (copies : List ℕ) : Type 0 where
   pub sheet : requestSheet unit t n s 0 ≡ got (take q copies) (length s)
   pub known : 0 < n
-  pub small : q ≤ 1024
+  pub small : q ≤ blocksMost
   pub count : length (take q copies) ≡ q
   pub blocks : All (Sendable n) (take q copies)
-  pub beyond : drop q copies ≡ replicate (1024 - q) 0
+  pub beyond : drop q copies ≡ replicate (blocksMost - q) 0
 
 -- an accepted sheet, as the definition has it
-sheet-blocks : (unit t n : ℕ) (s ms : List ℕ) (e : ℕ) → n ≤ 64 → requestSheet unit t n s 0 ≡ got ms e → (0 < n)
-    × (length ms ≤ 1024) × All (Sendable n) ms
+pub sheet-blocks : (unit t n : ℕ) (s ms : List ℕ) (e : ℕ) → n ≤ disksMost → requestSheet unit t n s 0 ≡ got ms e → (0 < n)
+    × (length ms ≤ blocksMost) × All (Sendable n) ms
 sheet-blocks unit t n s ms e l h =
     let w : Whole unit t n s ms e = sheet-got unit t n s ms e h in
     let known : 0 < n = ltb-true 0 n (w .headed .known) in
@@ -95,29 +97,30 @@ unfolding counted
 counted-refused (got ms e) n h = absurd (let z : _≡_ {A = ℕ} 0 1 = cc in omega arith)
 counted-refused (refused m) n h = cc
 
-pub accepted : (unit t n : ℕ) (s : List ℕ) (q : ℕ) (r : Request) → n ≤ 64 → Answered (length s) (requestSheet unit t n s 0) r
+pub accepted : (unit t n : ℕ) (s : List ℕ) (q : ℕ) (r : Request) → n ≤ disksMost → Answered (length s) (requestSheet unit t n s 0) r
     → r .answer ≡ Accepted q → Accepts unit t n s q (r .copies)
 unfolding toldAnswer padded
 accepted unit t n s q r l a h =
     let w : (ms : List ℕ) × (requestSheet unit t n s 0 ≡ got ms (length s))
     × (length ms ≡ q) = counted-got (requestSheet unit t n s 0) (length s) q (sym (ap (toldAnswer (length s)) h) ∙ a .told) in
-    let c : r .copies ≡ w .0 ++ replicate (1024 - length (w .0)) 0 = a .held ∙ ap padded (w .1) in
-    let front : take q (r .copies) ≡ w .0 = ap (take q) c ∙ take-at (w .0) (replicate (1024 - length (w .0)) 0) q (w .2) in
-    let b : (0 < n) × (length (w .0) ≤ 1024) × All (Sendable n) (w .0) = sheet-blocks unit t n s (w .0) (length s) l (w .1) in
+    let c : r .copies ≡ w .0 ++ replicate (blocksMost - length (w .0)) 0 = a .held ∙ ap padded (w .1) in
+    let front : take q (r .copies) ≡ w .0 = ap (take q) c ∙ take-at (w .0) (replicate (blocksMost - length (w .0)) 0) q (w .2) in
+    let b : (0 < n) × (length (w .0) ≤ blocksMost) × All (Sendable n) (w .0) = sheet-blocks unit t n s (w .0) (length s) l (w .1) in
     record {
       sheet = w .1 ∙ ap (λ (x : List ℕ). got x (length s)) (sym front);
       known = b .0;
       small = omega (arith, b .1, w .2);
       count = ap length front ∙ w .2;
       blocks = subst (All (Sendable n)) (sym front) (b .2);
-      beyond = ap (drop q) c ∙ drop-at (w .0) (replicate (1024 - length (w .0)) 0) q (w .2) ∙ ap (λ (k : ℕ). replicate (1024 - k) 0) (w .2);
+      beyond = ap (drop q) c ∙ drop-at (w .0) (replicate (blocksMost - length (w .0)) 0) q (w .2)
+          ∙ ap (λ (k : ℕ). replicate (blocksMost - k) 0) (w .2);
     }
 
 -- each block has copies, at most eight, all below N
 pub accepted-at : {unit t n : ℕ} {s : List ℕ} {q : ℕ} {copies : List ℕ} → Accepts unit t n s q copies → (i : ℕ) → i < q
     → Sendable n (getD copies i 0)
 accepted-at {unit} {t} {n} {s} {q} {copies} a i l =
-    subst (Sendable n) (getD-take q copies i 0 l) (all-at (Sendable n) (take q copies) 0 i (a .blocks) (omega (arith, a .count)))
+    subst (Sendable n) (getD-take q copies i 0 l) (all-at (Sendable n) (take q copies) (a .blocks) i 0 (omega (arith, a .count)))
 
 pub refused-sheet : (len : ℕ) (o : Out (List ℕ)) (r : Request) (e : Refusal) → Answered len o r → r .answer ≡ Refused e
     → o ≡ refused (numberOf e)

@@ -1,30 +1,64 @@
 -- Disks to a number of copies and back.
+--     has-plus, lt-up, plus-lt, put-sum      a disk above all others put in adds its power of two
 --     mask-append, mask-disks, mask-all      the number of a number's disks is that number
 --     disks-enough, disks-same               places where no disk is; numbers with the same disks
 --     disks-plus, disks-mask                 the disks of the number of a rising list are that list
 --     mask-under                             the number of a rising list has no bit above its last
 --     disks-rise                             the disks of a number rise
 --     disks-zero, disks-lowest               0 has no disk; the lowest disk of a number, then those of the number without it
-use mathlib.Core.Path.{_≡_, refl, sym, ap, ap₂, _∙_, subst}
-use mathlib.Core.Bool.{Bool, true, false, not, _&&_, _||_}
+use mathlib.Core.Path.{_≡_, sym, ap, _∙_, refl, ap₂, subst}
+use mathlib.Core.Bool.{Bool, _||_, or-false, true, false, not, _&&_}
+use Prim.Native.Nat.{ℕ, zero, suc, _+_, _/_, _%_, _^_, _≤_, _<_, _-_, _*_}
+use native.Mathlib.Nat.{pow-suc, mod-lt, mod-one, mod-eq-of-lt, zero-add, eq-or-lt-of-le}
+use native.Mathlib.Omega.{arith}
+use lib.Dec.{eqb, eqb·zero-suc, eqb·suc-suc}
+use lib.Arith.{lt-one}
+use lib.Pow.{pow-mono, mod-pow-add}
+use Rattle.mask.specs.Has.{has}
+use Rattle.mask.proofs.Has.{has-first, has-half, has-zero, has-ext, has-above}
+use Rattle.mask.proofs.Bits.{has-pow}
 use mathlib.Core.Logic.{_⊎_, inl, inr}
 use mathlib.Core.List.{List, [], _∷_, _++_, append-assoc, append-nil}
-use Prim.Native.Nat.{ℕ, zero, suc, _+_, _-_, _*_, _/_, _%_, _^_, _≤_, _<_}
-use native.Mathlib.Nat.{mod-lt, mod-one, mod-eq-of-lt, zero-add, eq-or-lt-of-le}
-use native.Mathlib.Omega.{arith}
 use borrow.Author.Tests.{eq-eqb, ne-eqb, eqb-true, eqb-false}
-use lib.Dec.{eqb}
-use lib.Pow.{pow-mono, mod-pow-add}
 use Rattle.basics.specs.Choice.{pick}
 use Rattle.basics.proofs.Choice.{pick-true, pick-false}
 use Rattle.basics.proofs.Tests.{by-cases}
-use Rattle.mask.specs.Has.{has}
 use Rattle.mask.specs.Lowest.{Lowest}
-use Rattle.mask.proofs.Has.{has-zero, has-above}
 use Rattle.mask.proofs.Zeros.{lowest-some, lowest-has}
 use Rattle.basics.specs.Lists.{All, Rises}
 use Rattle.request.specs.Disks.{maskOf, disksBelow, disksOf}
-use Rattle.request.proofs.Masks.{has-plus, plus-lt}
+use Rattle.basics.specs.Limits.{disksMost}
+
+pub has-plus : (d m e : ℕ) → m < 2 ^ d → has (m + 2 ^ d) e ≡ (eqb e d || has m e)
+has-plus zero m e h =
+    let z : m ≡ 0 = lt-one h in
+    ap (λ (x : ℕ). has (x + 1) e) z ∙ has-pow 0 e ∙ sym (or-false (eqb e 0))
+    ∙ ap (λ (t : Bool). eqb e 0 || t) (sym (has-zero e) ∙ ap (λ (x : ℕ). has x e) (sym z))
+has-plus (suc d) m zero h =
+    let p = pow-suc 2 d in
+    has-first (m + 2 ^ suc d) ∙ ap (λ (x : ℕ). eqb x 1) {x = (m + 2 ^ suc d) % 2} {y = m % 2} (omega arith) ∙ sym (has-first m)
+    ∙ ap (λ (t : Bool). t || has m 0) (sym (eqb·zero-suc d))
+has-plus (suc d) m (suc e) h =
+    let p = pow-suc 2 d in
+    has-half (m + 2 ^ suc d) e
+    ∙ ap (λ (x : ℕ). has x e) {x = (m + 2 ^ suc d) / 2} {y = m / 2 + 2 ^ d} (omega arith)
+    ∙ has-plus d (m / 2) e (omega arith)
+    ∙ ap (λ (t : Bool). t || has (m / 2) e) (sym (eqb·suc-suc e d))
+    ∙ ap (λ (t : Bool). eqb (suc e) (suc d) || t) (sym (has-half m e))
+
+-- a number of few bits is one of more bits
+pub lt-up : {m floor d : ℕ} → m < 2 ^ floor → floor ≤ d → m < 2 ^ d
+lt-up {m} {floor} {d} h l = let g : 2 ^ floor ≤ 2 ^ d = pow-mono l in omega arith
+
+-- below the next power of two
+pub plus-lt : (d m : ℕ) → m < 2 ^ d → m + 2 ^ d < 2 ^ (d + 1)
+plus-lt d m h = let p = pow-suc 2 d in
+    let e : 2 ^ (d + 1) ≡ 2 ^ suc d = ap (λ (k : ℕ). 2 ^ k) {x = d + 1} {y = suc d} (omega arith) in omega arith
+
+pub put-sum : (m d r : ℕ) → d < disksMost → m < 2 ^ d → r < 2 ^ 64 → ((e : ℕ) → has r e ≡ (eqb e d || has m e)) → r ≡ m + 2 ^ d
+put-sum m d r l h b a =
+    let g : 2 ^ (d + 1) ≤ 2 ^ 64 = pow-mono {i = d + 1} {j = disksMost} (omega arith) in
+    has-ext disksMost r (m + 2 ^ d) b (omega (arith, plus-lt d m h)) (λ e k. a e ∙ sym (has-plus d m e h))
 
 -- ---- the number of a number's disks
 
@@ -57,7 +91,7 @@ mask-disks (suc d) m =
 
 pub mask-all : (m : ℕ) → m < 2 ^ 64 → maskOf (disksOf m) ≡ m
 unfolding disksOf
-mask-all m h = mask-disks 64 m ∙ mod-eq-of-lt h
+mask-all m h = mask-disks disksMost m ∙ mod-eq-of-lt h
 
 -- ---- the disks of a rising list's number
 
@@ -108,10 +142,10 @@ none-below : (ds : List ℕ) → disksBelow 0 0 ++ ds ≡ ds
 unfolding disksBelow
 none-below ds = refl
 
-pub disks-mask : (high : ℕ) (ds : List ℕ) → high ≤ 63 → Rises 0 high ds → disksOf (maskOf ds) ≡ ds
+pub disks-mask : (high : ℕ) (ds : List ℕ) → high < disksMost → Rises 0 high ds → disksOf (maskOf ds) ≡ ds
 unfolding disksOf
-disks-mask high ds b r = ap (disksBelow 64) (sym (zero-add (maskOf ds)))
-    ∙ disks-plus 64 0 high 0 ds r (omega arith) (omega arith) (omega arith) ∙ none-below ds
+disks-mask high ds b r = ap (disksBelow disksMost) (sym (zero-add (maskOf ds)))
+    ∙ disks-plus disksMost 0 high 0 ds r (omega arith) (omega arith) (omega arith) ∙ none-below ds
 
 pub mask-under : (floor high low : ℕ) (ds : List ℕ) → Rises floor high ds → floor ≤ high + 1 → low < 2 ^ floor
     → low + maskOf ds < 2 ^ (high + 1)
@@ -148,15 +182,19 @@ disks-rising zero high m h = (tt, tt)
 disks-rising (suc d) high m h =
     let i : Rises 0 high (disksBelow d m) × All (λ x. x < d) (disksBelow d m) = disks-rising d high m (omega arith) in
     by-cases (has m d)
-    (λ t. subst (λ (x : List ℕ). Rises 0 high (disksBelow d m ++ x) × All (λ x. x < suc d) (disksBelow d m ++ x)) (sym (pick-true (d ∷ []) [] t))
-    (rises-snoc 0 high d (disksBelow d m) (i .0) (i .1) (omega arith) (omega arith), under-snoc (suc d) d (disksBelow d m) (i .1) (omega arith)))
-    (λ f. subst (λ (x : List ℕ). Rises 0 high x × All (λ x. x < suc d) x) (sym (append-nil (disksBelow d m)) ∙ ap (λ (x : List ℕ). disksBelow d m ++ x) (sym (pick-false (d ∷ []) [] f)))
+    (λ t. subst (λ (x : List ℕ). Rises 0 high (disksBelow d m ++ x) × All (λ x. x < suc d) (disksBelow d m ++ x))
+    (sym (pick-true (d ∷ []) [] t)) (
+      rises-snoc 0 high d (disksBelow d m) (i .0) (i .1) (omega arith) (omega arith),
+      under-snoc (suc d) d (disksBelow d m) (i .1) (omega arith),
+    ))
+    (λ f. subst (λ (x : List ℕ). Rises 0 high x × All (λ x. x < suc d) x) (sym (append-nil (disksBelow d m))
+    ∙ ap (λ (x : List ℕ). disksBelow d m ++ x) (sym (pick-false (d ∷ []) [] f)))
     (i .0, under-more (suc d) d (disksBelow d m) (i .1) (omega arith)))
 
-pub disks-rise : (high m : ℕ) → high ≤ 63 → m < 2 ^ (high + 1) → Rises 0 high (disksOf m)
+pub disks-rise : (high m : ℕ) → high < disksMost → m < 2 ^ (high + 1) → Rises 0 high (disksOf m)
 unfolding disksOf
 disks-rise high m l h =
-    subst (Rises 0 high) (sym (disks-up (high + 1) 64 m h (omega arith))) (disks-rising (high + 1) high m (omega arith) .0)
+    subst (Rises 0 high) (sym (disks-up (high + 1) disksMost m h (omega arith))) (disks-rising (high + 1) high m (omega arith) .0)
 
 -- ---- the lowest disk, then the rest
 
@@ -168,7 +206,7 @@ disks-none (suc n) m h =
 
 pub disks-zero : disksOf 0 ≡ []
 unfolding disksOf
-disks-zero = disks-none 64 0 (λ e l. has-zero e)
+disks-zero = disks-none disksMost 0 (λ e l. has-zero e)
 
 -- d is the lowest disk of m, and r is m with d taken out
 module _ (m d r : ℕ) (found : has m d ≡ true) (under : (e : ℕ) → e < d → has m e ≡ false)
@@ -198,4 +236,4 @@ module _ (m d r : ℕ) (found : has m d ≡ true) (under : (e : ℕ) → e < d �
 pub disks-lowest : (m d r : ℕ) → m < 2 ^ 64 → 0 < m → Lowest m d → ((e : ℕ) → has r e ≡ (not (eqb e d) && has m e))
     → disksOf m ≡ d ∷ disksOf r
 unfolding disksOf
-disks-lowest m d r h p low taken = disks-first m d r (lowest-has m d h p low) (low .under) taken 64 (lowest-some m d h p low)
+disks-lowest m d r h p low taken = disks-first m d r (lowest-has m d h p low) (low .under) taken disksMost (lowest-some m d h p low)

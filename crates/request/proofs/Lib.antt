@@ -1,10 +1,7 @@
-pub mod Masks
 pub mod Disks
 pub mod Reading
 pub mod Writing
-pub mod Sizing
-pub mod Drafting
 pub mod Accepted
 pub mod RoundTrip
+pub mod Longest
 pub mod Unique
-pub mod Gathering

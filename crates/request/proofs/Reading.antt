@@ -1,19 +1,20 @@
 -- Laws of reading a request.
---     last-few, last-all, last-le                          the last disk
+--     last-few, last-all, last-under                       the last disk
 --     gather-done, gather-step, gather-stop                the disks of a block, one by one
+--     Gathering                                            as a loop: the disks read so far are in m, the rest is still to be read
 --     block-none, block-many, block-of, block-stops        a block, by its copy count
---     heading-stops, -unset, -count                        the fields before the blocks, by where they stop
---     Filled, filled-start, -step, -stop, -extra, -done    the blocks, as a loop
+--     heading-stops, heading-unset, heading-count          the fields before the blocks, by where they stop
+--     Filling, filling-start, filling-step, filling-stop, filling-extra, filling-done    the blocks, as a loop
 --     sheet-next, sheet-stops, answered-of, answered-sheet the whole sheet
 --     Listed, Headed, Whole, block-got, heading-got, sheet-got     what an accepted block, heading or sheet says of each part
-use mathlib.Core.Path.{_≡_, refl, sym, ap, _∙_, subst}
-use mathlib.Core.Bool.{true, not, true≢false}
-use mathlib.Core.List.{List, _∷_, _++_}
+use mathlib.Core.Path.{_≡_, refl, sym, ap, _∙_, subst, subst⁻¹}
+use mathlib.Core.Bool.{true, not, _||_, true≢false}
+use mathlib.Core.List.{List, [], _∷_, _++_}
 use Prim.Native.Nat.{ℕ, suc, _+_, _-_, _^_, _≤_, _<_}
 use native.Mathlib.Omega.{arith}
 use borrow.Author.Tests.{eq-eqb, ne-eqb, lt-ltb, le-ltb, le-leb, lt-leb, leb-true, ltb-true}
-use lib.Dec.{eqb, leb, ltb}
-use lib.ListN.{length, replicate, take, drop, set, length-set, length-replicate, take-append-drop}
+use lib.Dec.{eqb, leb, ltb, lit<}
+use lib.ListN.{length, replicate, take, drop, set, length-set, length-replicate, take-append-drop, getD}
 use lib.Seq.{length-take-le, take-suc-set, drop-set-lt, drop-drop}
 use Rattle.basics.proofs.Choice.{pick-true, pick-false, pick-elim}
 use Rattle.field.specs.declared.Refusal.{Refusal}
@@ -21,7 +22,7 @@ use Rattle.field.specs.Refusal.{numberOf}
 use Rattle.field.specs.Sheet.{Out, got, refused, Parser, andThen, _>>=_, _>>_, pure, require, times}
 use Rattle.field.specs.Field.{number, opening, inside, rising, ascending, end, whole}
 use Rattle.field.proofs.Sheet.{next, then, stops, halts, pass, fail, Step, bind-got, after-got, passed, pure-got}
-use Rattle.field.proofs.Values.{inside-range}
+use Rattle.field.proofs.Values.{between-range}
 use Rattle.field.proofs.Lists.{prefix, times-start, times-step, times-stop, times-done}
 use Rattle.field.proofs.Whole.{whole-next, whole-stops, whole-got, end-place}
 use Rattle.request.specs.declared.Answer.the-variants.{Accepted}
@@ -30,21 +31,27 @@ use Rattle.request.specs.declared.Copies.the-variants.{Got, Refused as N
 use Rattle.request.specs.declared.Request.{Request}
 use Rattle.request.specs.Disks.{maskOf}
 use Rattle.request.specs.Request.{lastDisk, block, heading, requestSheet}
-use Rattle.request.specs.Told.{toldCopies, toldAnswer, counted, padded, Answered, masked}
+use Rattle.request.specs.Parts.{toldCopies, masked, Beyond}
+use Rattle.request.specs.Told.{toldAnswer, counted, padded, Answered}
+use Rattle.basics.specs.Limits.{disksMost, blocksMost, copiesMost}
+use Rattle.mask.specs.Has.{has}
+use Rattle.field.proofs.Readers.{between-got, between-above, between-under, between-stops}
+use Rattle.field.proofs.OneByte.{number-ends, number-byte, number-above}
+use Rattle.request.proofs.Disks.{put-sum, plus-lt, lt-up}
 
 -- ---- the last disk
 
-pub last-few : (n : ℕ) → n < 64 → lastDisk n ≡ n - 1
+pub last-few : (n : ℕ) → n < disksMost → lastDisk n ≡ n - 1
 unfolding lastDisk
-last-few n h = pick-true _ _ (lt-ltb n 64 h)
+last-few n h = pick-true _ _ (lt-ltb n disksMost h)
 
-pub last-all : (n : ℕ) → 64 ≤ n → lastDisk n ≡ 63
+pub last-all : (n : ℕ) → disksMost ≤ n → lastDisk n ≡ disksMost - 1
 unfolding lastDisk
-last-all n h = pick-false _ _ (le-ltb n 64 h)
+last-all n h = pick-false _ _ (le-ltb n disksMost h)
 
-pub last-le : (n : ℕ) → lastDisk n ≤ 63
+pub last-under : (n : ℕ) → lastDisk n < disksMost
 unfolding lastDisk
-last-le n = pick-elim (λ (k : ℕ). k ≤ 63) _ _ _ (λ t. omega (arith, ltb-true n 64 t)) (λ f. omega arith)
+last-under n = pick-elim (λ (k : ℕ). k < disksMost) _ _ _ (λ t. omega (arith, ltb-true n disksMost t)) (λ f. omega arith)
 
 -- ---- the disks of a block
 
@@ -86,6 +93,57 @@ module _ (high : ℕ) (s : List ℕ) (left floor at m : ℕ) where
       let k : left ≡ suc (left - 1) = omega arith in
       ap (λ (k : ℕ). masked m (ascending k floor high s at)) k ∙ ap (masked m) (stops (rising floor high) _ s at h)
 
+-- ---- byte by byte
+
+pub record Gathering (high : ℕ) (s : List ℕ) (at k m floor p left : ℕ) : Type 0 where
+  pub rest : masked m (ascending left floor high s p) ≡ masked 0 (ascending k 0 high s at)
+  pub above : m < 2 ^ floor
+
+pub gathering-start : {high : ℕ} {s : List ℕ} {at k : ℕ} → Gathering high s at k 0 0 at k
+gathering-start = record { rest = refl; above = lit< tt }
+
+module _ {high : ℕ} {s : List ℕ} {at k m floor p left : ℕ} (g : Gathering high s at k m floor p left) where
+  -- the first refusal stands
+  pub gathering-stop : {n : ℕ} → 0 < left → rising floor high s p ≡ refused n → refused n ≡ masked 0 (ascending k 0 high s at)
+  gathering-stop l h = sym (gather-stop high s left floor p m (λ z. omega (arith, l, z)) h) ∙ g .rest
+
+  pub gathering-ends : 0 < left → length s ≤ p → refused 1 ≡ masked 0 (ascending k 0 high s at)
+  gathering-ends l h = gathering-stop l (between-stops s p (number-ends s p h) floor high 8 6)
+
+  module _ {d : ℕ} (few : high < disksMost) (here : p < length s) (is : d ≡ getD s p 0) (within : d ≤ high) where
+    stands : number s p ≡ got d (p + 1)
+    stands = number-byte s p here (omega (arith, is)) ∙ ap (λ (v : ℕ). got v (p + 1)) (sym is)
+
+    pub gathering-low : 0 < left → d < floor → refused 8 ≡ masked 0 (ascending k 0 high s at)
+    gathering-low l b = gathering-stop l (between-under s p stands floor high 8 6 within b)
+
+    pub gathering-step : {r : ℕ} → 0 < left → floor ≤ d → r < 2 ^ 64 → ((e : ℕ) → has r e ≡ (eqb e d || has m e))
+        → Gathering high s at k r (d + 1) (p + 1) (left - 1)
+    gathering-step {r} l b fits a =
+        let up : m < 2 ^ d = lt-up (g .above) b in
+        let sum : r ≡ m + 2 ^ d = put-sum m d r (omega arith) up fits a in
+        record {
+          rest = sym (gather-step high s left floor p m r sum (λ z. omega (arith, l, z)) (between-got s p stands floor high 8 6 b within))
+              ∙ g .rest;
+          above = subst⁻¹ (λ (x : ℕ). x < 2 ^ (d + 1)) sum (plus-lt d m up);
+        }
+
+  pub gathering-done : left ≤ 0 → got m p ≡ masked 0 (ascending k 0 high s at)
+  gathering-done z = sym (gather-done high s left floor p m (omega arith)) ∙ g .rest
+
+-- a number whose first byte is above the last disk is no disk's
+module _ (high : ℕ) (s : List ℕ) (at : ℕ) {r : Copies} where
+  pub beyond-got : {v e : ℕ} → high < disksMost → at < length s → high < getD s at 0 → toldCopies r ≡ refused 6
+      → number s at ≡ got v e → Beyond high s at r
+  beyond-got few here over t h = record {
+    number = 6;
+    told = t;
+    stops = λ floor. between-above s at h floor high 8 6 (number-above s at here (omega arith) over h);
+  }
+
+  pub beyond-stops : {n : ℕ} → toldCopies r ≡ refused n → number s at ≡ refused n → Beyond high s at r
+  beyond-stops {n} t h = record { number = n; told = t; stops = λ floor. between-stops s at h floor high 8 6 }
+
 -- ---- a block
 
 -- what an answer told of a block
@@ -103,13 +161,13 @@ module _ (high : ℕ) (s : List ℕ) (at : ℕ) where
     unfolding block
     block-none z = next number _ s at h ∙ fail 7 _ s e (ap not (eq-eqb k 0 z))
 
-    pub block-many : (k ≡ 0 → ⊥) → 8 < k → block high s at ≡ refused 6
+    pub block-many : (k ≡ 0 → ⊥) → copiesMost < k → block high s at ≡ refused 6
     unfolding block
-    block-many z l = next number _ s at h ∙ pass 7 _ s e (ap not (ne-eqb k 0 z)) ∙ fail 6 _ s e (lt-leb k 8 l)
+    block-many z l = next number _ s at h ∙ pass 7 _ s e (ap not (ne-eqb k 0 z)) ∙ fail 6 _ s e (lt-leb k copiesMost l)
 
-    pub block-of : (k ≡ 0 → ⊥) → k ≤ 8 → block high s at ≡ masked 0 (ascending k 0 high s e)
+    pub block-of : (k ≡ 0 → ⊥) → k ≤ copiesMost → block high s at ≡ masked 0 (ascending k 0 high s e)
     unfolding block
-    block-of z l = next number _ s at h ∙ pass 7 _ s e (ap not (ne-eqb k 0 z)) ∙ pass 6 _ s e (le-leb k 8 l)
+    block-of z l = next number _ s at h ∙ pass 7 _ s e (ap not (ne-eqb k 0 z)) ∙ pass 6 _ s e (le-leb k copiesMost l)
         ∙ summed (ascending k 0 high) s e
 
   pub block-stops : {n : ℕ} → number s at ≡ refused n → block high s at ≡ refused n
@@ -123,7 +181,7 @@ pub record Listed (high : ℕ) (s : List ℕ) (at m e : ℕ) : Type 0 where
   pub disks : List ℕ
   pub first : number s at ≡ got count mid
   pub some : count ≡ 0 → ⊥
-  pub few : count ≤ 8
+  pub few : count ≤ copiesMost
   pub rest : ascending count 0 high s mid ≡ got disks e
   pub sum : maskOf disks ≡ m
 
@@ -131,11 +189,11 @@ pub block-got : (high : ℕ) (s : List ℕ) (at m e : ℕ) → block high s at �
 unfolding block
 block-got high s at m e h =
     let rest : ℕ → Parser ℕ = λ k. ascending k 0 high >>= λ ds. pure (maskOf ds) in
-    let f : Step (number s at) (λ k j. (require (not (eqb k 0)) 7 >> (require (leb k 8) 6 >> rest k)) s j) m e =
-    bind-got number s at m e (λ k. require (not (eqb k 0)) 7 >> (require (leb k 8) 6 >> rest k)) h in
+    let f : Step (number s at) (λ k j. (require (not (eqb k 0)) 7 >> (require (leb k copiesMost) 6 >> rest k)) s j) m e =
+    bind-got number s at m e (λ k. require (not (eqb k 0)) 7 >> (require (leb k copiesMost) 6 >> rest k)) h in
     let g : (not (eqb (f .found) 0) ≡ true)
-    × ((require (leb (f .found) 8) 6 >> rest (f .found)) s (f .mid) ≡ got m e) = passed _ 7 _ s (f .mid) m e (f .last) in
-    let i : (leb (f .found) 8 ≡ true) × (rest (f .found) s (f .mid) ≡ got m e) = passed _ 6 _ s (f .mid) m e (g .1) in
+    × ((require (leb (f .found) copiesMost) 6 >> rest (f .found)) s (f .mid) ≡ got m e) = passed _ 7 _ s (f .mid) m e (f .last) in
+    let i : (leb (f .found) copiesMost ≡ true) × (rest (f .found) s (f .mid) ≡ got m e) = passed _ 6 _ s (f .mid) m e (g .1) in
     let j : Step (ascending (f .found) 0 high s (f .mid)) (λ ds k. pure (maskOf ds) s k) m e =
     bind-got (ascending (f .found) 0 high) s (f .mid) m e (λ ds. pure (maskOf ds)) (i .1) in
     let p : (maskOf (j .found) ≡ m) × (j .mid ≡ e) = pure-got (maskOf (j .found)) m s (j .mid) e (j .last) in
@@ -145,7 +203,7 @@ block-got high s at m e h =
       disks = j .found;
       first = f .first;
       some = λ z. true≢false (sym (g .0) ∙ ap not (eq-eqb (f .found) 0 z));
-      few = leb-true (f .found) 8 (i .0);
+      few = leb-true (f .found) copiesMost (i .0);
       rest = j .first ∙ ap (got (j .found)) (p .1);
       sum = p .0;
     }
@@ -153,61 +211,62 @@ block-got high s at m e h =
 -- ---- the fields before the blocks
 
 module _ (unit t n : ℕ) (s : List ℕ) where
-  pub heading-stops : {m : ℕ} → opening 2 unit t s 0 ≡ refused m → heading unit t n s 0 ≡ refused m
+  pub heading-stops : {m : ℕ} → opening (2 ∷ []) unit t s 0 ≡ refused m → heading unit t n s 0 ≡ refused m
   unfolding heading
-  heading-stops h = halts (opening 2 unit t) _ s 0 h
+  heading-stops h = halts (opening (2 ∷ []) unit t) _ s 0 h
 
-  module _ {v e : ℕ} (h : opening 2 unit t s 0 ≡ got v e) where
+  module _ {v e : ℕ} (h : opening (2 ∷ []) unit t s 0 ≡ got v e) where
     pub heading-unset : n ≡ 0 → heading unit t n s 0 ≡ refused 10
     unfolding heading
-    heading-unset z = then (opening 2 unit t) _ s 0 h ∙ fail 10 _ s e (le-ltb 0 n (omega arith))
+    heading-unset z = then (opening (2 ∷ []) unit t) _ s 0 h ∙ fail 10 _ s e (le-ltb 0 n (omega arith))
 
-    pub heading-count : (n ≡ 0 → ⊥) → heading unit t n s 0 ≡ inside 0 1024 s e
+    pub heading-count : (n ≡ 0 → ⊥) → heading unit t n s 0 ≡ inside 0 blocksMost 6 s e
     unfolding heading
-    heading-count z = then (opening 2 unit t) _ s 0 h ∙ pass 10 _ s e (lt-ltb 0 n (omega arith))
+    heading-count z = then (opening (2 ∷ []) unit t) _ s 0 h ∙ pass 10 _ s e (lt-ltb 0 n (omega arith))
 
 -- what an accepted heading says of each part
 pub record Headed (unit t n : ℕ) (s : List ℕ) (q e : ℕ) : Type 0 where
   pub lease : ℕ
   pub mid : ℕ
-  pub first : opening 2 unit t s 0 ≡ got lease mid
+  pub first : opening (2 ∷ []) unit t s 0 ≡ got lease mid
   pub known : ltb 0 n ≡ true
-  pub last : inside 0 1024 s mid ≡ got q e
+  pub last : inside 0 blocksMost 6 s mid ≡ got q e
 
 pub heading-got : (unit t n : ℕ) (s : List ℕ) (q e : ℕ) → heading unit t n s 0 ≡ got q e → Headed unit t n s q e
 unfolding heading
 heading-got unit t n s q e h =
-    let f : Step (opening 2 unit t s 0) (λ _ m. (require (ltb 0 n) 10 >> inside 0 1024) s m) q e =
-    after-got (opening 2 unit t) s 0 q e (require (ltb 0 n) 10 >> inside 0 1024) h in
-    let j : (ltb 0 n ≡ true) × (inside 0 1024 s (f .mid) ≡ got q e) = passed (ltb 0 n) 10 (inside 0 1024) s (f .mid) q e (f .last) in
+    let f : Step (opening (2 ∷ []) unit t s 0) (λ _ m. (require (ltb 0 n) 10 >> inside 0 blocksMost 6) s m) q e =
+    after-got (opening (2 ∷ []) unit t) s 0 q e (require (ltb 0 n) 10 >> inside 0 blocksMost 6) h in
+    let j : (ltb 0 n ≡ true)
+    × (inside 0 blocksMost 6 s (f .mid) ≡ got q e) = passed (ltb 0 n) 10 (inside 0 blocksMost 6) s (f .mid) q e (f .last) in
     record { lease = f .found; mid = f .mid; first = f .first; known = j .0; last = j .1 }
 
 -- Q is in its range
-pub heading-within : (unit t n : ℕ) (s : List ℕ) {q e : ℕ} → heading unit t n s 0 ≡ got q e → q ≤ 1024
+pub heading-within : (unit t n : ℕ) (s : List ℕ) {q e : ℕ} → heading unit t n s 0 ≡ got q e → q ≤ blocksMost
 heading-within unit t n s {q} {e} h = let g : Headed unit t n s q e = heading-got unit t n s q e h in
-    inside-range s (g .mid) 0 1024 q e (g .last) .1
+    between-range 0 blocksMost 6 6 s (g .mid) (g .last) .1
 
 -- ---- the blocks
 
 -- the first i blocks are read: their copies stand in the first i places, and the others are 0
-pub record Filled (q high : ℕ) (s : List ℕ) (at : ℕ) (copies : List ℕ) (p i : ℕ) : Type 0 where
+pub record Filling (q high : ℕ) (s : List ℕ) (at : ℕ) (copies : List ℕ) (p i : ℕ) : Type 0 where
   pub within : i ≤ q
-  pub long : length copies ≡ 1024
-  pub rest : drop i copies ≡ replicate (1024 - i) 0
+  pub long : length copies ≡ blocksMost
+  pub rest : drop i copies ≡ replicate (blocksMost - i) 0
   pub held : times q (block high) s at ≡ prefix (take i copies) (times (q - i) (block high) s p)
 
 -- one 0 less
-drop-zeros : (k : ℕ) → k < 1024 → drop {A = ℕ} 1 (replicate (1024 - k) 0) ≡ replicate (1024 - (k + 1)) 0
-drop-zeros k h = ap (λ (j : ℕ). drop {A = ℕ} 1 (replicate j 0)) {x = 1024 - k} {y = suc (1024 - (k + 1))} (omega arith)
+drop-zeros : (k : ℕ) → k < blocksMost → drop {A = ℕ} 1 (replicate (blocksMost - k) 0) ≡ replicate (blocksMost - (k + 1)) 0
+drop-zeros k h = ap (λ (j : ℕ). drop {A = ℕ} 1 (replicate j 0)) {x = blocksMost - k} {y = suc (blocksMost - (k + 1))} (omega arith)
 
 module _ (q high : ℕ) (s : List ℕ) (at : ℕ) where
-  pub filled-start : Filled q high s at (replicate 1024 0) at 0
-  filled-start = record
-      { within = omega arith; long = length-replicate {A = ℕ} 1024 0; rest = refl; held = times-start (block high) s q at }
+  pub filling-start : Filling q high s at (replicate blocksMost 0) at 0
+  filling-start = record
+      { within = omega arith; long = length-replicate {A = ℕ} blocksMost 0; rest = refl; held = times-start (block high) s q at }
 
-  module _ (copies : List ℕ) (p i : ℕ) (f : Filled q high s at copies p i) where
-    pub filled-step : {m e : ℕ} → i < q → q ≤ 1024 → block high s p ≡ got m e → Filled q high s at (set copies i m) e (i + 1)
-    filled-step {m} {e} l b h =
+  module _ (copies : List ℕ) (p i : ℕ) (f : Filling q high s at copies p i) where
+    pub filling-step : {m e : ℕ} → i < q → q ≤ blocksMost → block high s p ≡ got m e → Filling q high s at (set copies i m) e (i + 1)
+    filling-step {m} {e} l b h =
         let room : i < length copies = omega (arith, f .long) in
         record {
           within = omega arith;
@@ -219,23 +278,23 @@ module _ (q high : ℕ) (s : List ℕ) (at : ℕ) where
               ∙ ap (λ (k : ℕ). take k (set copies i m)) {x = suc i} {y = i + 1} (omega arith));
         }
 
-    pub filled-stop : {n : ℕ} → i < q → block high s p ≡ refused n → whole (times q (block high)) s at ≡ refused n
+    pub filling-stop : {n : ℕ} → i < q → block high s p ≡ refused n → whole (times q (block high)) s at ≡ refused n
     unfolding whole
-    filled-stop l h = stops (times q (block high)) _ s at (f .held ∙ times-stop (block high) s q i p (take i copies) l h)
+    filling-stop l h = stops (times q (block high)) _ s at (f .held ∙ times-stop (block high) s q i p (take i copies) l h)
 
     all-read : q ≤ i → times q (block high) s at ≡ got (take q copies) p
     all-read l =
         let e : i ≡ q = omega (arith, f .within) in
         f .held ∙ times-done (block high) s q i p (take i copies) l ∙ ap (λ (k : ℕ). got (take k copies) p) e
 
-    pub filled-extra : {n : ℕ} → q ≤ i → end s p ≡ refused n → whole (times q (block high)) s at ≡ refused n
+    pub filling-extra : {n : ℕ} → q ≤ i → end s p ≡ refused n → whole (times q (block high)) s at ≡ refused n
     unfolding whole
-    filled-extra l h = next (times q (block high)) _ s at (all-read l) ∙ halts end _ s p h
+    filling-extra l h = next (times q (block high)) _ s at (all-read l) ∙ halts end _ s p h
 
-    pub filled-done : {v e : ℕ} (r : Request) → r .answer ≡ Accepted q → r .copies ≡ copies → q ≤ i → q ≤ 1024 → end s p ≡ got v e
+    pub filling-done : {v e : ℕ} (r : Request) → r .answer ≡ Accepted q → r .copies ≡ copies → q ≤ i → q ≤ blocksMost → end s p ≡ got v e
         → Answered (length s) (whole (times q (block high)) s at) r
     unfolding whole pure toldAnswer counted padded
-    filled-done {v} {e} r a b l small h =
+    filling-done {v} {e} r a b l small h =
         let n : length (take q copies) ≡ q = length-take-le q copies (omega (arith, f .long)) in
         let o : whole (times q (block high)) s at ≡ got (take q copies) e =
         next (times q (block high)) _ s at (all-read l) ∙ then end _ s p h in
@@ -245,7 +304,7 @@ module _ (q high : ℕ) (s : List ℕ) (at : ℕ) where
               ∙ ap (λ (k : ℕ). got k e) (sym n) ∙ sym (ap counted o);
           held = b ∙ sym (take-append-drop q copies)
               ∙ ap (λ (x : List ℕ). take q copies ++ x) (ap (λ (k : ℕ). drop k copies) (sym i≡q) ∙ f .rest
-              ∙ ap (λ (k : ℕ). replicate (1024 - k) 0) (i≡q ∙ sym n))
+              ∙ ap (λ (k : ℕ). replicate (blocksMost - k) 0) (i≡q ∙ sym n))
               ∙ sym (ap padded o);
         }
 
@@ -276,7 +335,7 @@ pub record Whole (unit t n : ℕ) (s ms : List ℕ) (e : ℕ) : Type 0 where
   pub count : ℕ
   pub mid : ℕ
   pub headed : Headed unit t n s count mid
-  pub small : count ≤ 1024
+  pub small : count ≤ blocksMost
   pub rest : times count (block (lastDisk n)) s mid ≡ got ms e
   pub ends : e ≡ length s
 

@@ -4,6 +4,7 @@
 --     disksOf        all its disks, rising
 use Prim.Native.Nat.{ℕ, zero, suc, _+_, _^_}
 use mathlib.Core.List.{List, [], _∷_, _++_}
+use Rattle.basics.specs.Limits.{disksMost}
 use Rattle.basics.specs.Choice.{pick}
 use Rattle.mask.specs.Has.{has}
 
@@ -17,6 +18,6 @@ unfoldable pub disksBelow : ℕ → ℕ → List ℕ
 disksBelow zero m = []
 disksBelow (suc d) m = disksBelow d m ++ pick (has m d) (d ∷ []) []
 
--- a number of 64 bits has no disk above 63
+-- a number of copies has a bit for each of 64 disks
 unfoldable pub disksOf : ℕ → List ℕ
-disksOf m = disksBelow 64 m
+disksOf m = disksBelow disksMost m

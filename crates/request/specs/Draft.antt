@@ -2,20 +2,16 @@
 --     blockBytes, headingBytes, requestBytes     a block, the fields before the blocks, the whole request
 --     checked           every block has copies that can be sent, or the first that has not is refused
 --     requestDraft      what the writer is to write
---     Counted, Sized    the blocks' bytes are counted, or one is refused
-use Prim.Native.Nat.{ℕ, _*_, _^_, _≤_}
-use mathlib.Core.Path.{_≡_}
+use Prim.Native.Nat.{ℕ, _^_}
 use mathlib.Core.List.{List, [], _∷_, _++_}
 use lib.ListN.{length}
 use lib.Dec.{eqb, leb, ltb}
+use Rattle.basics.specs.Limits.{disksMost, blocksMost, copiesMost}
 use Rattle.basics.specs.Choice.{pick}
 use Rattle.number.specs.Encode.{encode}
 use Rattle.mask.specs.Count.{members}
 use Rattle.field.specs.Put.{spellAll, openingBytes}
-use Rattle.field.specs.Refusal.{numberOf}
 use Rattle.field.specs.Send.{Draft, sheet, none}
-use Rattle.field.specs.declared.Written.{Written}
-use Rattle.field.specs.declared.Written.the-variants.{Length, Refused}
 use Rattle.request.specs.Disks.{disksOf}
 
 -- the copy count and the disks, rising
@@ -35,7 +31,7 @@ unfoldable pub checked : ℕ → List ℕ → Draft → Draft
 checked n [] d = d
 checked n (m ∷ ms) d =
     pick (eqb m 0) (none 7)
-    (pick (ltb 8 (members 64 m)) (none 6)
+    (pick (ltb copiesMost (members disksMost m)) (none 6)
     (pick (leb (2 ^ n) m) (none 6)
     (checked n ms d)))
 
@@ -44,17 +40,6 @@ unfoldable pub requestDraft : ℕ → ℕ → ℕ → List ℕ → Draft
 requestDraft unit t n ms =
     pick (eqb t 0) (none 6)
     (pick (eqb n 0) (none 6)
-    (pick (ltb 64 n) (none 6)
-    (pick (ltb 1024 (length ms)) (none 6)
+    (pick (ltb disksMost n) (none 6)
+    (pick (ltb blocksMost (length ms)) (none 6)
     (checked n ms (sheet (requestBytes unit t ms))))))
-
--- n is the number of bytes of at most 1,024 blocks, nine bytes each at the most
-pub record Counted (ms : List ℕ) (n : ℕ) : Type 0 where
-  pub count : length ms ≤ 1024
-  pub bytes : n ≡ length (spellAll blockBytes ms)
-  pub small : n ≤ 9 * length ms
-
--- the bytes of all blocks, where every block can be sent; else the refusal of the first that cannot
-unfoldable pub Sized : ℕ → List ℕ → Written → Type 0
-Sized n ms (Length k) = Counted ms k × ((d : Draft) → checked n ms d ≡ d)
-Sized n ms (Refused e) = (d : Draft) → checked n ms d ≡ none (numberOf e)

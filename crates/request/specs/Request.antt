@@ -5,32 +5,33 @@
 --     requestSheet     a whole read request: it gives the numbers of copies of its blocks
 use Prim.Native.Nat.{ℕ, _-_}
 use mathlib.Core.Bool.{not}
-use mathlib.Core.List.{List}
+use mathlib.Core.List.{List, [], _∷_}
 use lib.Dec.{eqb, leb, ltb}
+use Rattle.basics.specs.Limits.{disksMost, blocksMost, copiesMost}
 use Rattle.basics.specs.Choice.{pick}
 use Rattle.field.specs.Sheet.{Parser, _>>=_, _>>_, pure, require, times}
 use Rattle.field.specs.Field.{number, opening, inside, ascending, whole}
 use Rattle.request.specs.Disks.{maskOf}
 
--- disks are 0 to N - 1; a number of copies has no bit above 63
+-- disks are 0 to N - 1; of an N above 64 no more than 64 count, since a number of copies has a bit for each
 unfoldable pub lastDisk : ℕ → ℕ
-lastDisk n = pick (ltb n 64) (n - 1) 63
+lastDisk n = pick (ltb n disksMost) (n - 1) (disksMost - 1)
 
 -- k from 1 to 8, then k disks up to the last one, rising; k = 0 is 7
 unfoldable pub block : ℕ → Parser ℕ
 block high = do
   k ← number
   require (not (eqb k 0)) 7
-  require (leb k 8) 6
+  require (leb k copiesMost) 6
   ds ← ascending k 0 high
   pure (maskOf ds)
 
 -- kind 2, the unit, its tenancy (no tenancy is 0), settings (N = 0 means none yet), Q
 unfoldable pub heading : ℕ → ℕ → ℕ → Parser ℕ
 heading unit t n = do
-  opening 2 unit t
+  opening (2 ∷ []) unit t
   require (ltb 0 n) 10
-  inside 0 1024
+  inside 0 blocksMost 6
 
 -- the heading, Q blocks, and the end of the sheet
 unfoldable pub requestSheet : ℕ → ℕ → ℕ → Parser (List ℕ)

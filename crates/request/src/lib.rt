@@ -1,4 +1,8 @@
 // The read request: its reader and its writer.
+use basics::BLOCKS;
+use basics::COPIES;
+use basics::DISKS;
+use basics::Masks;
 use field::Field;
 use field::Refusal;
 use field::Written;
@@ -14,10 +18,10 @@ ghost use Rattle.field.specs.Send.{Sent, sheet};
 ghost use Rattle.field.specs.Sheet.{refused, times};
 ghost use Rattle.field.specs.Told.{told};
 ghost use Rattle.request.specs.Disks.{disksOf};
-ghost use Rattle.request.specs.Draft.{blockBytes, headingBytes, requestBytes, requestDraft, Counted, Sized};
-ghost use Rattle.request.specs.Parts.{Beyond};
-ghost use Rattle.request.specs.Request.{lastDisk, block, heading, requestSheet};
-ghost use Rattle.request.specs.Told.{toldCopies, Answered, masked};
+ghost use Rattle.request.specs.Draft.{blockBytes, headingBytes, requestBytes, requestDraft};
+ghost use Rattle.request.specs.Parts.{toldCopies, masked, Beyond, Counted, Sized};
+ghost use Rattle.request.specs.Request.{lastDisk, block, heading as headingOf, requestSheet};
+ghost use Rattle.request.specs.Told.{Answered};
 
 // What a reader of requests answers: the block count Q, or the refusal.
 pub enum Answer {
@@ -28,7 +32,7 @@ pub enum Answer {
 // The answer, and a number of copies for each block, bit d standing for disk d: 0 from Q on, and all 0 on refusal.
 pub struct Request {
     pub answer: Answer,
-    pub copies: [u64; 1024],
+    pub copies: Masks,
 }
 
 // What reading one block gives: its copies and the place after it, or the refusal.
@@ -37,12 +41,13 @@ enum Copies {
     Refused(Refusal),
 }
 
-// The last disk of a unit; no number of copies holds a disk above 63.
+// The last disk of a unit, of which no more than DISKS count: a number of copies has a bit for each.
 fn last(disks: u32) -> u32
     ensures { λ r. ⌜ r ≡ lastDisk disks ⌝ }
 {
-    if 64 <= disks {
-        return 63;
+    let most = DISKS as u32;
+    if most <= disks {
+        return most - 1;
     }
     if disks == 0 {
         return 0;
@@ -62,7 +67,7 @@ fn not_disk(s: &[u8], at: usize, high: u32) -> Copies
     requires { ⌜ (high < disksMost) × (at < length (now s)) × (high < getD (now s) at 0) ⌝ }
     ensures { λ r. ⌜ Beyond high (now (s .entry)) at r ⌝ }
 {
-    match field::any(s, at) {
+    match field::number(s, at) {
         Field::Got(_, _) => Copies::Refused(Refusal::OutOfRange),
         Field::Refused(e) => Copies::Refused(e),
     }
@@ -88,7 +93,7 @@ fn gather(s: &[u8], at: usize, k: u32, high: u32) -> Copies
         if d < floor {
             return Copies::Refused(Refusal::NotRising);
         }
-        m = mask::set(m, d as usize);
+        m = mask::put(m, d as usize);
         floor = d + 1;
         p += 1;
         left -= 1;
@@ -101,12 +106,12 @@ fn one_block(s: &[u8], at: usize, high: u32) -> Copies
     requires { ⌜ high < disksMost ⌝ }
     ensures { λ r. ⌜ toldCopies r ≡ block high (now (s .entry)) at ⌝ }
 {
-    match field::any(s, at) {
+    match field::number(s, at) {
         Field::Got(k, next) => {
             if k == 0 {
                 return Copies::Refused(Refusal::NoCopy);
             }
-            if 8 < k {
+            if COPIES < k {
                 return Copies::Refused(Refusal::OutOfRange);
             }
             gather(s, next, k, high)
@@ -119,7 +124,7 @@ fn one_block(s: &[u8], at: usize, high: u32) -> Copies
 fn refuse(e: Refusal) -> Request
     ensures { λ r. ⌜ ((len : ℕ) → Answered len (refused (numberOf e)) r) ⌝ }
 {
-    let copies = [0u64; 1024];
+    let copies = [0u64; BLOCKS];
     Request {
         answer: Answer::Refused(e),
         copies,
@@ -131,7 +136,7 @@ fn blocks(s: &[u8], at: usize, q: usize, high: u32) -> Request
     requires { ⌜ (q ≤ blocksMost) × (high < disksMost) ⌝ }
     ensures { λ r. ⌜ Answered (length (now (s .entry))) (whole (times q (block high)) (now (s .entry)) at) r ⌝ }
 {
-    let mut copies = [0u64; 1024];
+    let mut copies = [0u64; BLOCKS];
     let mut p = at;
     let mut i: usize = 0;
     while i < q {
@@ -146,7 +151,7 @@ fn blocks(s: &[u8], at: usize, q: usize, high: u32) -> Request
         }
         i += 1;
     }
-    match field::finish(s, p) {
+    match field::end(s, p) {
         Field::Got(_, _) => Request {
             answer: Answer::Accepted(q),
             copies,
@@ -156,24 +161,24 @@ fn blocks(s: &[u8], at: usize, q: usize, high: u32) -> Request
 }
 
 // The fields before the blocks: Q and the place after it.
-fn opening(s: &[u8], unit: u32, tenancy: u32, disks: u32) -> Field
-    ensures { λ r. ⌜ told r ≡ heading unit tenancy disks (now (s .entry)) 0 ⌝ }
+fn heading(s: &[u8], unit: u32, tenancy: u32, disks: u32) -> Field
+    ensures { λ r. ⌜ told r ≡ headingOf unit tenancy disks (now (s .entry)) 0 ⌝ }
 {
-    let found = field::opening(s, 2, unit, tenancy);
+    let found = field::opening(s, &[2], unit, tenancy);
     let Field::Got(_, at) = found else {
         return found;
     };
     if disks == 0 {
         return Field::Refused(Refusal::NoSettings);
     }
-    field::ranged(s, at, 0, 1024)
+    field::inside(s, at, 0, BLOCKS as u32, Refusal::OutOfRange)
 }
 
 // Reads a request for a unit, its tenancy (0: not rented) and its N (0: no settings yet).
 pub fn read(s: &[u8], unit: u32, tenancy: u32, disks: u32) -> Request
     ensures { λ r. ⌜ Answered (length (now (s .entry))) (requestSheet unit tenancy disks (now (s .entry)) 0) r ⌝ }
 {
-    match opening(s, unit, tenancy, disks) {
+    match heading(s, unit, tenancy, disks) {
         Field::Got(q, at) => blocks(s, at, q as usize, last(disks)),
         Field::Refused(e) => refuse(e),
     }
@@ -181,7 +186,7 @@ pub fn read(s: &[u8], unit: u32, tenancy: u32, disks: u32) -> Request
 
 // The bytes of all blocks, or why the first bad block is refused: no copies, more than eight, or a disk at N or above.
 fn size(copies: &[u64], disks: usize) -> Written
-    requires { ⌜ (disks ≤ 64) × (length (now copies) ≤ 1024) ⌝ }
+    requires { ⌜ (disks ≤ disksMost) × (length (now copies) ≤ blocksMost) ⌝ }
     ensures { λ r. ⌜ Sized disks (now (copies .entry)) r ⌝ }
 {
     let known = mask::below(disks);
@@ -193,7 +198,7 @@ fn size(copies: &[u64], disks: usize) -> Written
             return Written::Refused(Refusal::NoCopy);
         }
         let bits = mask::count(m);
-        if 8 < bits {
+        if COPIES < bits {
             return Written::Refused(Refusal::OutOfRange);
         }
         if mask::without(m, known) != 0 {
@@ -215,7 +220,7 @@ fn put_disks(m: u64, out: &mut [u8], at: usize) -> usize
     while rest != 0 {
         let d = mask::lowest(rest);
         p = field::put(d as u32, out, p);
-        rest = mask::clear(rest, d);
+        rest = mask::take(rest, d);
     }
     p
 }
@@ -277,10 +282,10 @@ pub fn write(unit: u32, tenancy: u32, disks: u32, copies: &[u64], out: &mut [u8]
     if disks == 0 {
         return Written::Refused(Refusal::OutOfRange);
     }
-    if 64 < disks {
+    if (DISKS as u32) < disks {
         return Written::Refused(Refusal::OutOfRange);
     }
-    if 1024 < copies.len() {
+    if BLOCKS < copies.len() {
         return Written::Refused(Refusal::OutOfRange);
     }
     match size(copies, disks as usize) {

@@ -1,1 +1,4 @@
+pub mod Others
 pub mod Serving
+pub mod Turns
+pub mod Session

@@ -1,65 +1,71 @@
--- Laws of the shelf: the line of each outcome, of a plan sheet in a lent buffer, and of each call; and that there is no second answer.
+-- Laws of a turn: the line of each outcome, of a request, of each call; what a turn leaves; and that there is no second answer.
 use mathlib.Core.Path.{_≡_, refl, sym, ap, _∙_, subst}
-use mathlib.Core.List.{List, _++_}
-use Prim.Native.Nat.{ℕ, _-_, _≤_, _<_}
+use mathlib.Core.Bool.{Bool, true, false, _&&_, not}
+use mathlib.Core.List.{List, [], _∷_, _++_}
+use Prim.Native.Nat.{ℕ, zero, suc, _+_, _-_, _≤_, _<_}
 use native.Mathlib.Omega.{arith}
-use borrow.Author.Tests.{eq-eqb, ne-eqb, le-leb, lt-leb}
-use lib.ListN.{length, take, drop, length-append}
+use borrow.Author.Tests.{eq-eqb, ne-eqb}
+use lib.Dec.{eqb}
+use lib.ListN.{length, take, drop, replicate, length-append}
 use lib.Seq.{take-append-le}
+use Rattle.basics.specs.Choice.{pick}
 use Rattle.basics.proofs.Choice.{pick-true, pick-false}
 use Rattle.field.specs.declared.Refusal.{Refusal}
 use Rattle.field.specs.declared.Written.the-variants.{Length, Refused as NotWritten}
+use Rattle.field.specs.declared.Written.{Written}
+use Rattle.field.specs.Field.{number}
 use Rattle.field.specs.Refusal.{numberOf}
 use Rattle.field.specs.Send.{toldWritten}
-use Rattle.field.specs.Sheet.{Out, got, refused}
-use Rattle.plan.specs.Draft.{planBytes}
-use Rattle.plan.specs.Plan.{Plan}
-use Rattle.plan.proofs.Sending.{sent-all, sent-none}
-use Rattle.request.specs.Request.{requestSheet}
+use Rattle.field.specs.Sheet.{Out, got, refused, pure}
+use Rattle.field.proofs.Sheet.{next, stops}
 use Rattle.unit.specs.declared.Answer.{Answer}
 use Rattle.unit.specs.declared.Answer.the-variants.{Accepted, Refused as Denied}
 use Rattle.unit.specs.declared.Done.{Done}
-use Rattle.unit.specs.declared.Planned.{Planned}
+use Rattle.unit.specs.declared.Requested.{Requested}
 use Rattle.unit.specs.declared.Unit.{Unit}
-use Rattle.unit.specs.Life.{Outcome, rent, set, giveBack}
-use Rattle.unit.specs.Request.{Sheeted, Replied, Answered}
+use Rattle.hire.specs.Calls.{asking, said, planned, Does}
+use Rattle.unit.specs.Life.{Verdict, accepted, Outcome, rent, set, giveBack, refused as denied}
+use Rattle.unit.specs.Request.{Replied}
 use Rattle.unit.specs.Sound.{Sound}
 use Rattle.unit.specs.Told.{told, toldAnswer}
-use Rattle.unit.specs.Unit.{tenancyOf}
-use Rattle.unit.proofs.Plans.{plan-for-unique}
-use Rattle.unit.proofs.Sound.{sound-rent, sound-set, sound-back}
-use Rattle.unit.proofs.Within.{answered-as, answered-within}
+use Rattle.unit.specs.Unit.{newUnit}
+use Rattle.hire.proofs.Runs.{rent-does, set-does, back-does, request-does}
+use Rattle.unit.proofs.Replies.{replied-within}
 use Rattle.stream.specs.declared.Call.{Call}
 use Rattle.stream.specs.declared.Call.the-variants.{Rent, Settings, Request, Return, Refused as NoCall}
-use Rattle.service.specs.declared.Turn.{Turn}
+use Rattle.stream.specs.Call.{roomMost, Asked, rents, sets, requests, returns, asked, toldCall, Held, Framed}
+use Rattle.stream.specs.Frame.{part, Within}
 use Rattle.line.specs.declared.Word.{Word}
 use Rattle.line.specs.declared.Word.the-variants.{Rented, Set, Returned, Refused, Stopped}
-use Rattle.stream.specs.Call.{Asked, rents, sets, requests, returns, toldCall, Held, Framed}
-use Rattle.stream.specs.Frame.{part, Within}
 use Rattle.line.specs.Line.{spoken, sheetLine}
 use Rattle.line.specs.Printed.{Printed}
-use Rattle.service.specs.Shelf.{verdictLine, sentLine, stopLine, Sheets, Does, Serves, Served}
 use Rattle.line.proofs.Adding.{no-line, printed-unique}
 use Rattle.line.proofs.Lines.{printed-same}
+use Rattle.service.specs.declared.Next.{Next}
+use Rattle.service.specs.declared.Next.the-variants.{Served, Wants, Done as Last}
+use Rattle.service.specs.declared.Shelf.{Shelf}
+use Rattle.service.specs.declared.Turn.{Turn}
+use Rattle.service.specs.Shelf.{Due, opens, asks, due, shelfOf, callOf, acceptedLine, lineOf, Serves, lastLine, waits, Comes, Turned}
+use Rattle.service.specs.Parts.{verdictLine, Answers, Plans}
 
 -- ---- the lines
 
 module _ {out after : List ℕ} {n : ℕ} where
-  pub verdict-taken : (w : Word) (a : Answer) → a ≡ Accepted → Printed (spoken w) out n after → Printed (verdictLine w (toldAnswer a)) out n after
+  pub verdict-taken : (w : Word) (a : Answer) → a ≡ Accepted → Printed (spoken w) out n after
+      → Printed (verdictLine w (toldAnswer a)) out n after
   unfolding verdictLine toldAnswer
   verdict-taken w a q p = printed-same (ap (λ (x : Answer). verdictLine w (toldAnswer x)) (sym q)) p
 
-  pub verdict-denied : (w : Word) (a : Answer) (e : Refusal) → a ≡ Denied e → Printed (spoken (Refused (numberOf e))) out n after → Printed (verdictLine w (toldAnswer a)) out n after
+  pub verdict-denied : (w : Word) (a : Answer) (e : Refusal) → a ≡ Denied e → Printed (spoken (Refused (numberOf e))) out n after
+      → Printed (verdictLine w (toldAnswer a)) out n after
   unfolding verdictLine toldAnswer
   verdict-denied w a e q p = printed-same (ap (λ (x : Answer). verdictLine w (toldAnswer x)) (sym q)) p
 
-  pub stop-line : (m k : ℕ) → m ≡ k → (m ≡ 1 → ⊥) → Printed (spoken (Stopped m)) out n after → Printed (stopLine k) out n after
-  unfolding stopLine
-  stop-line m k e q p = printed-same (sym (pick-false _ _ (ne-eqb m 1 q)) ∙ ap stopLine e) p
-
-pub stop-more : (out : List ℕ) (m k : ℕ) → m ≡ k → m ≡ 1 → Printed (stopLine k) out 0 out
-unfolding stopLine
-stop-more out m k e q = printed-same (sym (pick-true _ _ (eq-eqb m 1 q)) ∙ ap stopLine e) (no-line out)
+-- a call's verdict is printed by its word
+said-line : (a : Asked) (w : Word) (v : Verdict) → acceptedLine a ≡ spoken w → lineOf a (said v) ≡ verdictLine w v
+unfolding lineOf verdictLine
+said-line a w accepted q = q
+said-line a w (denied n) q = refl
 
 -- ---- a request
 
@@ -67,117 +73,165 @@ stop-more out m k e q = printed-same (sym (pick-true _ _ (eq-eqb m 1 q)) ∙ ap 
 pub part-within : (ys zs : List ℕ) {k : ℕ} → k ≤ length ys → k ≤ length (ys ++ zs)
 part-within ys zs h = omega (arith, length-append ys zs)
 
-module _ (u : Unit) (out : List ℕ) (room : ℕ) (m : length out ≡ room) {buf buf′ : List ℕ} {n : ℕ} where
-  reply-sent : (o : Out (List ℕ)) (k : ℕ) (after : List ℕ) → Replied u o out (Length k) after → Printed (sheetLine (take k after)) buf n buf′ → (text : List ℕ) × Sheets u room o text × Printed text buf n buf′
-  unfolding Replied Sheeted Sheets toldWritten sentLine
-  reply-sent (refused j) k after w p = absurd (let a : got tt k ≡ refused j = w .0 in let z : _≡_ {A = ℕ} 0 1 = cc in omega arith)
-  reply-sent (got copies e) k after w p =
-      let bs : List ℕ = planBytes (u .number) (tenancyOf u) (w .0) in
-      let x : (k ≡ length bs) × (take k after ≡ bs) × (k ≤ length out) = sent-all (u .number) (tenancyOf u) (w .0) (w .1 .range) out k after (w .2) in
-      (sheetLine bs, (w .0, w .1, sym (pick-true _ _ (le-leb (length bs) room (omega (arith, x .0, x .2))))), printed-same (ap sheetLine (x .1)) p)
+take-zeros : (k n : ℕ) → k ≤ n → take {A = ℕ} k (replicate n 0) ≡ replicate k 0
+take-zeros zero n h = refl
+take-zeros (suc k) zero h = absurd (omega arith)
+take-zeros (suc k) (suc n) h = ap (λ (z : List ℕ). 0 ∷ z) (take-zeros k n (omega arith))
 
-  reply-kept : (o : Out (List ℕ)) (e : Refusal) (after : List ℕ) → Replied u o out (NotWritten e) after → Printed (spoken (Refused (numberOf e))) buf n buf′ → (text : List ℕ) × Sheets u room o text × Printed text buf n buf′
-  unfolding Replied Sheeted Sheets toldWritten sentLine
-  reply-kept (refused j) e after w p =
-      let q : refused (numberOf e) ≡ refused j = w .0 in
-      let i : numberOf e ≡ j = cc in
-      (spoken (Refused (numberOf e)), ap (λ (x : ℕ). spoken (Refused x)) i, p)
-  reply-kept (got copies x) e after w p =
-      let bs : List ℕ = planBytes (u .number) (tenancyOf u) (w .0) in
-      let y : (length out < length bs) × (numberOf e ≡ 11) = sent-none (u .number) (tenancyOf u) (w .0) (w .1 .range) out e after (w .2) in
-      (spoken (Refused (numberOf e)), (w .0, w .1, ap (λ (i : ℕ). spoken (Refused i)) (y .1) ∙ sym (pick-false _ _ (lt-leb (length bs) room (omega (arith, y .0))))), p)
+-- the reply to a request, from what the unit promises
+module _ (u : Unit) (room : ℕ) (s out : List ℕ) (m : out ≡ replicate room 0) (r : Requested) (after : List ℕ)
+    (a : Replied u s out r after) where
+  replies : Does u (callOf (requests room s)) (planned (toldWritten (r .answer)) after) u
+  unfolding callOf
+  replies =
+      subst (λ (z : List ℕ). Does u (asking s z) (planned (toldWritten (r .answer)) after) u) m
+      (subst (Does u (asking s out) (planned (toldWritten (r .answer)) after)) (a .same) (request-does a))
 
-  module _ (s : List ℕ) (r : Planned) (after : List ℕ) (a : Answered u s out r after) where
-    pub request-sent : (k : ℕ) → r .answer ≡ Length k → (zs : List ℕ) → length after ≡ length out → Printed (sheetLine (take k (after ++ zs))) buf n buf′ → (text : List ℕ) × Sheets u room (requestSheet (u .number) (tenancyOf u) (u .table .disks) s 0) text × Printed text buf n buf′
+  module _ {buf buf′ : List ℕ} {n : ℕ} where
+    -- its line, where the answer is known
+    plans : (x : Written) → r .answer ≡ x → Printed (lineOf (requests room s) (planned (toldWritten x) after)) buf n buf′
+        → Plans u room s buf n buf′
+    plans x q p =
+        record {
+          reply = planned (toldWritten (r .answer)) after;
+          does = replies;
+          printed = printed-same (ap (λ (y : Written). lineOf (requests room s) (planned (toldWritten y) after)) (sym q)) p;
+        }
+
+    pub request-sent : (k : ℕ) → r .answer ≡ Length k → (zs : List ℕ) → length after ≡ length out
+        → Printed (sheetLine (take k (after ++ zs))) buf n buf′ → Plans u room s buf n buf′
+    unfolding lineOf toldWritten
     request-sent k q zs l p =
-        let w : k ≤ length after = omega (arith, answered-within u out s r after a k q) in
-        reply-sent _ k after (answered-as u out s r after a (Length k) q) (printed-same (ap sheetLine (take-append-le k after zs w)) p)
+        let w : k ≤ length after = omega (arith, replied-within a q) in
+        plans (Length k) q (printed-same (ap sheetLine (take-append-le k after zs w)) p)
 
-    pub request-kept : (e : Refusal) → r .answer ≡ NotWritten e → Printed (spoken (Refused (numberOf e))) buf n buf′ → (text : List ℕ) × Sheets u room (requestSheet (u .number) (tenancyOf u) (u .table .disks) s 0) text × Printed text buf n buf′
-    request-kept e q p = reply-kept _ e after (answered-as u out s r after a (NotWritten e) q) p
+    pub request-kept : (e : Refusal) → r .answer ≡ NotWritten e → Printed (spoken (Refused (numberOf e))) buf n buf′
+        → Plans u room s buf n buf′
+    unfolding lineOf toldWritten
+    request-kept e q p = plans (NotWritten e) q p
+
+-- the buffer that is lent, out of all of it
+pub lent : (room most : ℕ) → room ≤ most → take {A = ℕ} room (replicate most 0) ≡ replicate room 0
+lent room most h = take-zeros room most h
+
+-- ---- nothing whole is there
+
+module _ (sh : Shelf) (s : List ℕ) (ended : Bool) (n : ℕ) where
+  pub turned-wants : (out : List ℕ) → waits ended n ≡ true
+      → Turned sh s ended (refused n) out (record { next = Wants; used = 0; length = 0; shelf = sh }) out
+  unfolding Comes
+  turned-wants out q = record { line = []; comes = (sym (pick-true _ _ q), refl, sym (pick-true _ _ q), refl); printed = no-line out }
+
+  module _ (q : waits ended n ≡ false) where
+    done : (line : List ℕ) {out after : List ℕ} {k : ℕ} → line ≡ lastLine (sh .opened) s n → Printed line out k after
+        → Turned sh s ended (refused n) out (record { next = Last; used = 0; length = k; shelf = sh }) after
+    unfolding Comes
+    done line e p = record { line = line; comes = (sym (pick-false _ _ q), refl, e ∙ sym (pick-false _ _ q), refl); printed = p }
+
+    pub turned-clean : (out : List ℕ) → (sh .opened && eqb (length s) 0) ≡ true
+        → Turned sh s ended (refused n) out (record { next = Last; used = 0; length = 0; shelf = sh }) out
+    unfolding lastLine
+    turned-clean out h = done [] (sym (pick-true _ _ h)) (no-line out)
+
+    pub turned-stopped : {out after : List ℕ} {k : ℕ} → (sh .opened && eqb (length s) 0) ≡ false → Printed (spoken (Stopped n)) out k after
+        → Turned sh s ended (refused n) out (record { next = Last; used = 0; length = k; shelf = sh }) after
+    unfolding lastLine
+    turned-stopped h p = done (spoken (Stopped n)) (sym (pick-false _ _ h)) p
+
+-- ---- the unit's number
+
+-- the same for another reading that gives the same
+pub turned-same : {sh : Shelf} {s : List ℕ} {ended : Bool} {o q : Out Due} {out after : List ℕ} {t : Turn} → q ≡ o
+    → Turned sh s ended o out t after → Turned sh s ended q out t after
+turned-same {sh} {s} {ended} {o} {q} {out} {after} {t} e w = subst (λ (x : Out Due). Turned sh s ended x out t after) (sym e) w
+
+pub due-when : (s : List ℕ) {a b : Bool} → a ≡ b → due a s 0 ≡ due b s 0
+due-when s e = ap (λ (x : Bool). due x s 0) e
+
+pub due-opens : (s : List ℕ) (n e : ℕ) → number s 0 ≡ got n e → due false s 0 ≡ got (opens n) e
+unfolding due pure
+due-opens s n e h = next number _ s 0 h
+
+pub due-closed : (s : List ℕ) (n : ℕ) → number s 0 ≡ refused n → due false s 0 ≡ refused n
+unfolding due
+due-closed s n h = stops number _ s 0 h
+
+pub due-asks : (s : List ℕ) (a : Asked) (e : ℕ) → asked s 0 ≡ got a e → due true s 0 ≡ got (asks a) e
+unfolding due pure
+due-asks s a e h = next asked _ s 0 h
+
+pub due-stops : (s : List ℕ) (n : ℕ) → asked s 0 ≡ refused n → due true s 0 ≡ refused n
+unfolding due
+due-stops s n h = stops asked _ s 0 h
+
+pub turned-opens : (sh : Shelf) (s : List ℕ) (ended : Bool) (out : List ℕ) (n e : ℕ) (u : Unit) → number s 0 ≡ got n e → u ≡ newUnit n
+    → Turned sh s ended (due false s 0) out (record { next = Served; used = e; length = 0; shelf = record { unit = u; opened = true } }) out
+unfolding Comes Serves shelfOf
+turned-opens sh s ended out n e u h q =
+    turned-same (due-opens s n e h)
+    (record { line = []; comes = (refl, refl, (refl, ap (λ (x : Unit). record { unit = x; opened = true }) q)); printed = no-line out })
 
 -- ---- each call
 
-module _ {s : List ℕ} {o : Out Asked} {r : Call} {u : Unit} (w : Framed s o r) {out after : List ℕ} where
+-- what was read
+asked-as : {s : List ℕ} {o : Out Asked} {r k : Call} → Framed s o r → r ≡ k → o ≡ toldCall s k
+asked-as {s} w q = sym (w .answer) ∙ ap (toldCall s) q
+
+module _ (sh : Shelf) (s : List ℕ) (ended : Bool) {out after : List ℕ} {t : Turn} where
   -- a turn for the call that was read
-  served-call : {k : Call} {t : Turn} → r ≡ k → Served u (toldCall s k) out t after → Served u o out t after
-  served-call {k} {t} q v = subst (λ (x : Out Asked). Served u x out t after) (ap (toldCall s) (sym q) ∙ w .answer) v
+  turned-call : (a : Asked) (e : ℕ) (line : List ℕ) → asked s 0 ≡ got a e → t .next ≡ Served → t .used ≡ e
+      → Serves sh (asks a) line (t .shelf)
+      → Printed line out (t .length) after → Turned sh s ended (due true s 0) out t after
+  unfolding Comes
+  turned-call a e line h n q d p = turned-same (due-asks s a e h) (record { line = line; comes = (n, q, d); printed = p })
 
-  module _ (d : Done) {v : Turn} (e : ℕ) where
-    pub served-rent : (t : ℕ) → r ≡ Rent t e → told d ≡ rent u t → Printed (verdictLine Rented (toldAnswer (d .answer))) out (v .length) after × (v .used ≡ e) × (v .unit ≡ d .unit) → Served u o out v after
-    unfolding toldCall Serves Does told
-    served-rent t q h p = served-call q (record { line = verdictLine Rented (toldAnswer (d .answer)); does = (p .1, (ap (λ (y : Outcome). verdictLine Rented (y .verdict)) h, p .2 ∙ ap (λ (y : Outcome). y .unit) h)); printed = p .0 })
+  -- a call that is answered with a verdict
+  turned-said : (d : Done) (e : ℕ) (a : Asked) (x : Word) → acceptedLine a ≡ spoken x → asked s 0 ≡ got a e → Answers x d e out t after
+      → Does (sh .unit) (callOf a) (said (toldAnswer (d .answer))) (d .unit) → Turned sh s ended (due true s 0) out t after
+  unfolding Serves
+  turned-said d e a x word h p k =
+      turned-call a e (verdictLine x (toldAnswer (d .answer))) h (p .next) (p .place)
+      (said (toldAnswer (d .answer)), d .unit, k, sym (said-line a x (toldAnswer (d .answer)) word), p .shelf) (p .printed)
 
-    pub served-return : (t : ℕ) → r ≡ Return t e → told d ≡ giveBack u t → Printed (verdictLine Returned (toldAnswer (d .answer))) out (v .length) after × (v .used ≡ e) × (v .unit ≡ d .unit) → Served u o out v after
-    unfolding toldCall Serves Does told
-    served-return t q h p = served-call q (record { line = verdictLine Returned (toldAnswer (d .answer)); does = (p .1, (ap (λ (y : Outcome). verdictLine Returned (y .verdict)) h, p .2 ∙ ap (λ (y : Outcome). y .unit) h)); printed = p .0 })
+module _ {sh : Shelf} {s : List ℕ} {r : Call} {ended : Bool} (w : Framed s (asked s 0) r) {out after : List ℕ} {t : Turn} where
+  module _ (d : Done) (e : ℕ) where
+    pub turned-rent : (v : ℕ) → r ≡ Rent v e → told d ≡ rent (sh .unit) v → Answers Rented d e out t after
+        → Turned sh s ended (due true s 0) out t after
+    unfolding toldCall callOf acceptedLine
+    turned-rent v q h p = turned-said sh s ended d e (rents v) Rented refl (asked-as w q) p (rent-does (sh .unit) v d h)
 
-    pub served-set : (from : ℕ) → r ≡ Settings from e → told d ≡ set u (take (e - from) (drop from s)) → Printed (verdictLine Set (toldAnswer (d .answer))) out (v .length) after × (v .used ≡ e) × (v .unit ≡ d .unit) → Served u o out v after
-    unfolding toldCall Serves Does told part
-    served-set from q h p = served-call q (record { line = verdictLine Set (toldAnswer (d .answer)); does = (p .1, (ap (λ (y : Outcome). verdictLine Set (y .verdict)) h, p .2 ∙ ap (λ (y : Outcome). y .unit) h)); printed = p .0 })
+    pub turned-return : (v : ℕ) → r ≡ Return v e → told d ≡ giveBack (sh .unit) v → Answers Returned d e out t after
+        → Turned sh s ended (due true s 0) out t after
+    unfolding toldCall callOf acceptedLine
+    turned-return v q h p = turned-said sh s ended d e (returns v) Returned refl (asked-as w q) p (back-does (sh .unit) v d h)
 
-  module _ {n : ℕ} where
-    pub served-request : (room from e : ℕ) → r ≡ Request room from e → (text : List ℕ) × Sheets u room (requestSheet (u .number) (tenancyOf u) (u .table .disks) (take (e - from) (drop from s)) 0) text × Printed text out n after → Served u o out (record { used = e; length = n; unit = u }) after
-    unfolding toldCall Serves Does part
-    served-request room from e q p = served-call q (record { line = p .0; does = (refl, (p .1, refl)); printed = p .2 })
+    pub turned-set : (from : ℕ) → r ≡ Settings from e → told d ≡ set (sh .unit) (take (e - from) (drop from s))
+        → Answers Set d e out t after
+        → Turned sh s ended (due true s 0) out t after
+    unfolding toldCall callOf acceptedLine part
+    turned-set from q h p =
+        turned-said sh s ended d e (sets (part s from e)) Set refl (asked-as w q) p (set-does (sh .unit) (part s from e) d h)
 
-    pub served-stop : (e : Refusal) → r ≡ NoCall e → Printed (stopLine (numberOf e)) out n after → Served u o out (record { used = 0; length = n; unit = u }) after
-    unfolding toldCall Serves
-    served-stop e q p = served-call q (record { line = stopLine (numberOf e); does = (refl, refl, refl); printed = p })
+  pub turned-unserved : (e : Refusal) → r ≡ NoCall e → Turned sh s ended (refused (numberOf e)) out t after
+      → Turned sh s ended (due true s 0) out t after
+  unfolding toldCall
+  turned-unserved e q v = turned-same (due-stops s (numberOf e) (asked-as w q)) v
+
+pub turned-request : (sh : Shelf) {s : List ℕ} {r : Call} (ended : Bool) → Framed s (asked s 0) r
+    → {out after : List ℕ} {n : ℕ} (room from e : ℕ)
+    → sh .opened ≡ true → r ≡ Request room from e → Plans (sh .unit) room (take (e - from) (drop from s)) out n after
+    → Turned sh s ended (due true s 0) out (record { next = Served; used = e; length = n; shelf = sh }) after
+unfolding toldCall part Serves shelfOf
+turned-request sh {s} ended w room from e o q p =
+    turned-call sh s ended (requests room (part s from e)) e (lineOf (requests room (part s from e)) (p .reply)) (asked-as w q) refl refl
+    (p .reply, sh .unit, p .does, refl, ap (λ (b : Bool). record { unit = sh .unit; opened = b }) o) (p .printed)
 
 -- where a call's sheet lies
 pub held-settings : {s : List ℕ} {o : Out Asked} {r : Call} → Framed s o r → (from e : ℕ) → r ≡ Settings from e → Within s from e
 unfolding Held
 held-settings {s} w from e q = subst (Held s) q (w .held)
 
-pub held-request : {s : List ℕ} {o : Out Asked} {r : Call} → Framed s o r → (room from e : ℕ) → r ≡ Request room from e → Within s from e × (room ≤ 4096)
+pub held-request : {s : List ℕ} {o : Out Asked} {r : Call} → Framed s o r → (room from e : ℕ) → r ≡ Request room from e
+    → Within s from e × (room ≤ roomMost)
 unfolding Held
 held-request {s} w room from e q = subst (Held s) q (w .held)
-
--- ---- a sound unit stays sound
-
-does-sound : (u v : Unit) (a : Asked) (line : List ℕ) → Sound u → Does u a line v → Sound v
-unfolding Does
-does-sound u v (rents t) line h d = subst Sound (sym (d .1)) (sound-rent u h t)
-does-sound u v (sets s) line h d = subst Sound (sym (d .1)) (sound-set u h s)
-does-sound u v (requests room s) line h d = subst Sound (sym (d .1)) h
-does-sound u v (returns t) line h d = subst Sound (sym (d .1)) (sound-back u h t)
-
-serves-sound : (u v : Unit) (o : Out Asked) (used : ℕ) (line : List ℕ) → Sound u → Serves u o used line v → Sound v
-unfolding Serves
-serves-sound u v (refused n) used line h d = subst Sound (sym (d .2)) h
-serves-sound u v (got a e) used line h d = does-sound u v a line h (d .1)
-
-pub served-sound : {u : Unit} {o : Out Asked} {out after : List ℕ} (r : Turn) → Sound u → Served u o out r after → Sound (r .unit)
-served-sound {u} {o} r h w = serves-sound u (r .unit) o (r .used) (w .line) h (w .does)
-
--- ---- there is no second answer
-
-sheets-unique : (u : Unit) (room : ℕ) (o : Out (List ℕ)) (x y : List ℕ) → Sheets u room o x → Sheets u room o y → x ≡ y
-unfolding Sheets
-sheets-unique u room (refused n) x y v w = v ∙ sym w
-sheets-unique u room (got copies e) x y v w = v .2 ∙ ap (λ (p : Plan). sentLine room (planBytes (u .number) (tenancyOf u) p)) (plan-for-unique (u .table) copies (v .0) (w .0) (v .1) (w .1)) ∙ sym (w .2)
-
-does-unique : (u : Unit) (a : Asked) (x y : List ℕ) (v v′ : Unit) → Does u a x v → Does u a y v′ → (x ≡ y) × (v ≡ v′)
-unfolding Does
-does-unique u (rents t) x y v v′ p q = (p .0 ∙ sym (q .0), p .1 ∙ sym (q .1))
-does-unique u (sets s) x y v v′ p q = (p .0 ∙ sym (q .0), p .1 ∙ sym (q .1))
-does-unique u (requests room s) x y v v′ p q = (sheets-unique u room _ x y (p .0) (q .0), p .1 ∙ sym (q .1))
-does-unique u (returns t) x y v v′ p q = (p .0 ∙ sym (q .0), p .1 ∙ sym (q .1))
-
-serves-unique : (u : Unit) (o : Out Asked) (i j : ℕ) (x y : List ℕ) (v v′ : Unit) → Serves u o i x v → Serves u o j y v′ → (i ≡ j) × (x ≡ y) × (v ≡ v′)
-unfolding Serves
-serves-unique u (refused n) i j x y v v′ p q = (p .0 ∙ sym (q .0), p .1 ∙ sym (q .1), p .2 ∙ sym (q .2))
-serves-unique u (got a e) i j x y v v′ p q =
-    let d : (x ≡ y) × (v ≡ v′) = does-unique u a x y v v′ (p .1) (q .1) in
-    (p .0 ∙ sym (q .0), d .0, d .1)
-
-pub serve-unique : (u : Unit) (o : Out Asked) (out : List ℕ) (a b : Turn) (x y : List ℕ) → Served u o out a x → Served u o out b y → (a ≡ b) × (x ≡ y)
-serve-unique u o out a b x y v w =
-    let s : (a .used ≡ b .used) × (v .line ≡ w .line) × (a .unit ≡ b .unit) = serves-unique u o (a .used) (b .used) (v .line) (w .line) (a .unit) (b .unit) (v .does) (w .does) in
-    let p : (a .length ≡ b .length) × (x ≡ y) = printed-unique (w .line) out (a .length) (b .length) x y (printed-same (s .1) (v .printed)) (w .printed) in (
-      ap (λ (k : ℕ). record { used = k; length = a .length; unit = a .unit }) (s .0)
-          ∙ ap (λ (k : ℕ). record { used = b .used; length = k; unit = a .unit }) (p .0)
-          ∙ ap (λ (z : Unit). record { used = b .used; length = b .length; unit = z }) (s .2),
-      p .1,
-    )

@@ -1,60 +1,92 @@
--- One turn of the shelf: a call from the start of what has been read, the line for it, and the unit afterwards.
---     verdictLine, sentLine, stopLine     the lines of an outcome, of a plan sheet in a lent buffer, of a stream that stops
---     Sheets, Does, Serves                the line of a request; of a call; of what has been read
---     Served                              the promise: that line stands in the buffer
+-- One turn of the shelf: what stands next in the bytes that have been read, its line, and the shelf afterwards.
+--     Due, due            what stands next: the unit's number, and then its calls
+--     callOf, lineOf      the call to the unit; the line of its reply
+--     Serves              what is due is done: its line, and the shelf afterwards
+--     lastLine            the line where nothing whole stands there and nothing follows
+--     Comes, Turned       what a turn comes to; the promise: its line stands in the buffer
 use Prim.Native.Nat.{ℕ}
+use mathlib.Core.Bool.{Bool, true, false, _&&_, not}
 use mathlib.Core.Path.{_≡_}
 use mathlib.Core.List.{List, []}
-use lib.Dec.{eqb, leb}
-use lib.ListN.{length}
+use lib.Dec.{eqb}
+use lib.ListN.{length, take, replicate}
 use Rattle.basics.specs.Choice.{pick}
-use Rattle.field.specs.Sheet.{Out, got, refused}
-use Rattle.plan.specs.Draft.{planBytes}
-use Rattle.plan.specs.Plan.{Plan}
-use Rattle.request.specs.Request.{requestSheet}
+use Rattle.field.specs.Field.{number}
+use Rattle.field.specs.Sheet.{Out, got, refused, Parser, _>>=_, pure}
 use Rattle.unit.specs.declared.Unit.{Unit}
-use Rattle.unit.specs.Life.{Verdict, accepted, rent, set, giveBack, refused as denied}
-use Rattle.unit.specs.Request.{PlanFor}
-use Rattle.unit.specs.Unit.{tenancyOf}
-use Rattle.service.specs.declared.Turn.{Turn}
-use Rattle.line.specs.declared.Word.{Word}
+use Rattle.hire.specs.Calls.{Call, renting, setting, asking, returning, Reply, said, planned, Does}
+use Rattle.unit.specs.Life.{accepted, refused as denied}
+use Rattle.unit.specs.Unit.{newUnit}
 use Rattle.line.specs.declared.Word.the-variants.{Rented, Set, Returned, Refused, Stopped}
-use Rattle.stream.specs.Call.{Asked, rents, sets, requests, returns}
 use Rattle.line.specs.Line.{spoken, sheetLine}
 use Rattle.line.specs.Printed.{Printed}
+use Rattle.stream.specs.Call.{Asked, rents, sets, requests, returns, asked}
+use Rattle.service.specs.declared.Next.{Next}
+use Rattle.service.specs.declared.Next.the-variants.{Served, Wants, Done}
+use Rattle.service.specs.declared.Shelf.{Shelf}
+use Rattle.service.specs.declared.Turn.{Turn}
 
--- a word where a call was accepted, else its refusal
-unfoldable pub verdictLine : Word → Verdict → List ℕ
-verdictLine w accepted = spoken w
-verdictLine w (denied n) = spoken (Refused n)
+pub data Due : Type 0 where
+  opens : ℕ → Due
+  asks : Asked → Due
 
--- a plan sheet in hex; 11 where it is longer than the lent buffer
-unfoldable pub sentLine : ℕ → List ℕ → List ℕ
-sentLine room bytes = pick (leb (length bytes) room) (sheetLine bytes) (spoken (Refused 11))
+-- a call once the unit's number was read
+unfoldable pub due : Bool → Parser Due
+due true = do
+  a ← asked
+  pure (asks a)
+due false = do
+  n ← number
+  pure (opens n)
 
--- nothing yet where the bytes end before a call or inside it, else the stream stops
-unfoldable pub stopLine : ℕ → List ℕ
-stopLine n = pick (eqb n 1) [] (spoken (Stopped n))
+-- a shelf of which nothing was read, and one whose unit has its number
+unfoldable pub closed : Shelf
+closed = record { unit = newUnit 0; opened = false }
 
--- what a request sheet said, with so much room
-unfoldable pub Sheets : Unit → ℕ → Out (List ℕ) → List ℕ → Type 0
-Sheets u room (refused n) line = line ≡ spoken (Refused n)
-Sheets u room (got copies e) line = (p : Plan) × PlanFor (u .table) copies p × (line ≡ sentLine room (planBytes (u .number) (tenancyOf u) p))
+unfoldable pub shelfOf : Unit → Shelf
+shelfOf u = record { unit = u; opened = true }
 
--- a call's line, and the unit afterwards
-unfoldable pub Does : Unit → Asked → List ℕ → Unit → Type 0
-Does u (rents t) line v = (line ≡ verdictLine Rented (rent u t .verdict)) × (v ≡ rent u t .unit)
-Does u (sets s) line v = (line ≡ verdictLine Set (set u s .verdict)) × (v ≡ set u s .unit)
-Does u (requests room s) line v = Sheets u room (requestSheet (u .number) (tenancyOf u) (u .table .disks) s 0) line × (v ≡ u)
-Does u (returns t) line v = (line ≡ verdictLine Returned (giveBack u t .verdict)) × (v ≡ giveBack u t .unit)
+-- for a plan so many bytes are lent
+unfoldable pub callOf : Asked → Call
+callOf (rents t) = renting t
+callOf (sets s) = setting s
+callOf (requests room s) = asking s (replicate room 0)
+callOf (returns t) = returning t
 
--- what was read, the bytes used, the line and the unit afterwards
-unfoldable pub Serves : Unit → Out Asked → ℕ → List ℕ → Unit → Type 0
-Serves u (refused n) used line v = (used ≡ 0) × (line ≡ stopLine n) × (v ≡ u)
-Serves u (got a e) used line v = (used ≡ e) × Does u a line v
+-- the line of a call that was accepted; a request's is its plan
+unfoldable pub acceptedLine : Asked → List ℕ
+acceptedLine (rents t) = spoken Rented
+acceptedLine (sets s) = spoken Set
+acceptedLine (requests room s) = []
+acceptedLine (returns t) = spoken Returned
+
+-- a word, the plan sheet in hex, or the refusal
+unfoldable pub lineOf : Asked → Reply → List ℕ
+lineOf a (said accepted) = acceptedLine a
+lineOf a (said (denied n)) = spoken (Refused n)
+lineOf a (planned (got x n) bytes) = sheetLine (take n bytes)
+lineOf a (planned (refused n) bytes) = spoken (Refused n)
+
+-- the unit's number has no line
+unfoldable pub Serves : Shelf → Due → List ℕ → Shelf → Type 0
+Serves sh (opens n) line after = (line ≡ []) × (after ≡ shelfOf (newUnit n))
+Serves sh (asks a) line after = (r : Reply) × (u : Unit) × Does (sh .unit) (callOf a) r u × (line ≡ lineOf a r) × (after ≡ shelfOf u)
+
+-- none where the input ends between two calls; else the stream is damaged, by 1 where it is not whole
+unfoldable pub lastLine : Bool → List ℕ → ℕ → List ℕ
+lastLine opened s n = pick (opened && eqb (length s) 0) [] (spoken (Stopped n))
+
+-- what was refused with 1 waits for more bytes, unless the input has ended
+unfoldable pub waits : Bool → ℕ → Bool
+waits ended n = eqb n 1 && not ended
+
+unfoldable pub Comes : Shelf → List ℕ → Bool → Out Due → Next → ℕ → List ℕ → Shelf → Type 0
+Comes sh s ended (got d e) next used line after = (next ≡ Served) × (used ≡ e) × Serves sh d line after
+Comes sh s ended (refused n) next used line after =
+    (next ≡ pick (waits ended n) Wants Done) × (used ≡ 0) × (line ≡ pick (waits ended n) [] (lastLine (sh .opened) s n)) × (after ≡ sh)
 
 -- the line stands at the start of the buffer, all else as it was
-pub record Served (u : Unit) (o : Out Asked) (out : List ℕ) (r : Turn) (after : List ℕ) : Type 0 where
+pub record Turned (sh : Shelf) (s : List ℕ) (ended : Bool) (o : Out Due) (out : List ℕ) (r : Turn) (after : List ℕ) : Type 0 where
   pub line : List ℕ
-  pub does : Serves u o (r .used) line (r .unit)
+  pub comes : Comes sh s ended o (r .next) (r .used) line (r .shelf)
   pub printed : Printed line out (r .length) after

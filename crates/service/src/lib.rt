@@ -1,34 +1,65 @@
-// The shelf's service: one call from the start of what has been read so far, done by the unit.
+// The shelf's service: a turn of the shelf from the start of what has been read so far, done by the unit.
+use field::Field;
 use field::Refusal;
 use field::Written;
+use line::Line;
 use line::Word;
 use line::refuse;
 use line::say;
 use stream::Call;
+use stream::ROOM_MOST;
 use unit::Done;
 use unit::Unit;
-ghost use Prim.Native.Nat.{ℕ, _≤_};
+ghost use Prim.Native.Nat.{_≤_};
+ghost use mathlib.Core.Bool.{true, false, _&&_};
 ghost use mathlib.Core.Path.{_≡_};
-ghost use mathlib.Core.List.{List};
+ghost use lib.Dec.{eqb};
+ghost use lib.ListN.{length};
+ghost use Rattle.stream.specs.Call.{roomMost};
 ghost use Rattle.field.specs.Refusal.{numberOf};
-ghost use Rattle.request.specs.Request.{requestSheet};
+ghost use Rattle.field.specs.Sheet.{refused};
 ghost use Rattle.unit.specs.Sound.{Sound};
 ghost use Rattle.unit.specs.Told.{toldAnswer};
-ghost use Rattle.unit.specs.Unit.{tenancyOf};
 ghost use Rattle.line.specs.Printed.{Printed};
-ghost use Rattle.stream.specs.Call.{asked};
-ghost use Rattle.service.specs.Shelf.{verdictLine, stopLine, Sheets, Served};
+ghost use Rattle.service.specs.Shelf.{due, closed, Turned};
+ghost use Rattle.service.specs.Shelf.{waits as waitsOf};
+ghost use Rattle.service.specs.Parts.{verdictLine, Answers, Plans};
 
-// What a turn of the shelf comes to: the bytes used (none where more are wanted, or the stream is damaged), the length of the line,
-// and the unit afterwards.
+// A unit as a process: its number is due first, and then its calls.
+pub struct Shelf {
+    unit: Unit,
+    opened: bool,
+}
+
+// Where a turn leaves the shelf: what was due is done; more bytes are wanted; nothing follows.
+pub enum Next {
+    Served,
+    Wants,
+    Done,
+}
+
+// What a turn comes to: the bytes used, the length of the line, and the shelf afterwards.
 pub struct Turn {
+    pub next: Next,
     pub used: usize,
     pub length: usize,
-    pub unit: Unit,
+    pub shelf: Shelf,
+}
+
+impl Shelf {
+    // No unit's number has been read.
+    pub fn new() -> Shelf
+        ensures { λ r. ⌜ r ≡ closed ⌝ }
+    {
+        Shelf {
+            unit: Unit::new(0),
+            opened: false,
+        }
+    }
 }
 
 // A word where a call was accepted, else its refusal.
-fn verdict(w: Word, answer: unit::Answer, line: &mut [u8; 24576]) -> usize
+fn verdict(w: Word, answer: unit::Answer, line: &mut Line) -> usize
     ensures { λ r. ⌜ Printed (verdictLine w (toldAnswer answer)) (now (line .entry)) r (now (line .exit)) ⌝ }
 {
     match answer {
@@ -37,22 +68,27 @@ fn verdict(w: Word, answer: unit::Answer, line: &mut [u8; 24576]) -> usize
     }
 }
 
-// The line of a call that was done, and its turn.
-fn finish(w: Word, done: Done, used: usize, line: &mut [u8; 24576]) -> Turn
-    ensures { λ r. ⌜ Printed (verdictLine w (toldAnswer (done .answer))) (now (line .entry)) (r .length) (now (line .exit)) × (r .used ≡ used) × (r .unit ≡ done .unit) ⌝ }
+// The turn of a call that was done.
+fn served(w: Word, done: Done, used: usize, line: &mut Line) -> Turn
+    ensures { λ r. ⌜ Answers w done used (now (line .entry)) r (now (line .exit)) ⌝ }
 {
     let answer = done.answer;
     let unit = done.unit;
     let length = verdict(w, answer, line);
-    Turn { used, length, unit }
+    Turn {
+        next: Next::Served,
+        used,
+        length,
+        shelf: Shelf { unit, opened: true },
+    }
 }
 
 // A request, with so much room for its plan sheet.
-fn request(u: Unit, room: usize, sheet: &[u8], line: &mut [u8; 24576]) -> usize
-    requires { ⌜ Sound u × (room ≤ 4096) ⌝ }
-    ensures { λ r. ⌜ ((text : List ℕ) × Sheets u room (requestSheet (u .number) (tenancyOf u) (u .table .disks) (now (sheet .entry)) 0) text × Printed text (now (line .entry)) r (now (line .exit))) ⌝ }
+fn request(u: Unit, room: usize, sheet: &[u8], line: &mut Line) -> usize
+    requires { ⌜ Sound u × (room ≤ roomMost) ⌝ }
+    ensures { λ r. ⌜ Plans u room (now (sheet .entry)) (now (line .entry)) r (now (line .exit)) ⌝ }
 {
-    let mut out = [0u8; 4096];
+    let mut out = [0u8; ROOM_MOST];
     let planned = u.request(sheet, &mut out[..room]);
     let answer = planned.answer;
     match answer {
@@ -61,40 +97,103 @@ fn request(u: Unit, room: usize, sheet: &[u8], line: &mut [u8; 24576]) -> usize
     }
 }
 
-// Nothing where more bytes may complete a call; else the stream stops.
-fn stop(e: Refusal, line: &mut [u8; 24576]) -> usize
-    ensures { λ r. ⌜ Printed (stopLine (numberOf e)) (now (line .entry)) r (now (line .exit)) ⌝ }
+// Whether more bytes may complete what was refused.
+fn waits(e: Refusal, ended: bool) -> bool
+    ensures { λ r. ⌜ r ≡ waitsOf ended (numberOf e) ⌝ }
 {
-    let n = field::number_of(e);
-    if n == 1 {
-        return 0;
+    match e {
+        Refusal::SheetEnds => !ended,
+        _ => false,
     }
-    say(Word::Stopped(n), line)
 }
 
-pub fn serve(u: Unit, s: &[u8], line: &mut [u8; 24576]) -> Turn
-    requires { ⌜ Sound u ⌝ }
-    ensures { λ r. ⌜ Served u (asked (now (s .entry)) 0) (now (line .entry)) r (now (line .exit)) ⌝ }
+// Whether the input ends here between two calls.
+fn between_calls(opened: bool, s: &[u8]) -> bool
+    ensures { λ r. ⌜ r ≡ (opened && eqb (length (now (s .entry))) 0) ⌝ }
 {
+    if opened { s.len() == 0 } else { false }
+}
+
+// Nothing whole is there. More bytes may complete it, if any can come; else the shelf is done, with a line if the stream is damaged.
+fn unserved(shelf: Shelf, s: &[u8], e: Refusal, ended: bool, line: &mut Line) -> Turn
+    ensures { λ r. ⌜ Turned shelf (now (s .entry)) ended (refused (numberOf e)) (now (line .entry)) r (now (line .exit)) ⌝ }
+{
+    if waits(e, ended) {
+        return Turn {
+            next: Next::Wants,
+            used: 0,
+            length: 0,
+            shelf,
+        };
+    }
+    if between_calls(shelf.opened, s) {
+        return Turn {
+            next: Next::Done,
+            used: 0,
+            length: 0,
+            shelf,
+        };
+    }
+    let length = say(Word::Stopped(field::number_of(e)), line);
+    Turn {
+        next: Next::Done,
+        used: 0,
+        length,
+        shelf,
+    }
+}
+
+// The unit's number.
+fn open(shelf: Shelf, s: &[u8], ended: bool, line: &mut Line) -> Turn
+    ensures { λ r. ⌜ Turned shelf (now (s .entry)) ended (due false (now (s .entry)) 0) (now (line .entry)) r (now (line .exit)) ⌝ }
+{
+    match field::number(s, 0) {
+        Field::Got(number, used) => Turn {
+            next: Next::Served,
+            used,
+            length: 0,
+            shelf: Shelf {
+                unit: Unit::new(number),
+                opened: true,
+            },
+        },
+        Field::Refused(e) => unserved(shelf, s, e, ended, line),
+    }
+}
+
+// One call.
+fn call(shelf: Shelf, s: &[u8], ended: bool, line: &mut Line) -> Turn
+    requires { ⌜ Sound (shelf .unit) × (shelf .opened ≡ true) ⌝ }
+    ensures { λ r. ⌜ Turned shelf (now (s .entry)) ended (due true (now (s .entry)) 0) (now (line .entry)) r (now (line .exit)) ⌝ }
+{
+    let u = shelf.unit;
     match stream::read_call(s) {
-        Call::Rent(t, used) => finish(Word::Rented, u.rent(t), used, line),
-        Call::Settings(from, used) => finish(Word::Set, u.settings(&s[from..used]), used, line),
+        Call::Rent(t, used) => served(Word::Rented, u.rent(t), used, line),
+        Call::Settings(from, used) => served(Word::Set, u.settings(&s[from..used]), used, line),
         Call::Request(room, from, used) => {
             let length = request(u, room, &s[from..used], line);
             Turn {
+                next: Next::Served,
                 used,
                 length,
-                unit: u,
+                shelf,
             }
         }
-        Call::Return(t, used) => finish(Word::Returned, u.give_back(t), used, line),
-        Call::Refused(e) => {
-            let length = stop(e, line);
-            Turn {
-                used: 0,
-                length,
-                unit: u,
-            }
-        }
+        Call::Return(t, used) => served(Word::Returned, u.give_back(t), used, line),
+        Call::Refused(e) => unserved(shelf, s, e, ended, line),
+    }
+}
+
+// What stands next in the bytes, told whether more can come.
+pub fn serve(shelf: Shelf, s: &[u8], ended: bool, line: &mut Line) -> Turn
+    requires { ⌜ Sound (shelf .unit) ⌝ }
+    ensures { λ r. ⌜ Turned shelf (now (s .entry)) ended (due (shelf .opened) (now (s .entry)) 0) (now (line .entry))
+        r (now (line .exit)) ⌝ }
+{
+    let opened = shelf.opened;
+    if opened {
+        call(shelf, s, ended, line)
+    } else {
+        open(shelf, s, ended, line)
     }
 }

@@ -1,6 +1,5 @@
-pub mod Reading
-pub mod Ranges
 pub mod Rows
+pub mod Reading
 pub mod Writing
 pub mod Accepted
 pub mod RoundTrip

@@ -1,37 +1,35 @@
 -- Laws of the reader.
 --     row-got, row-first, row-second, row-third               a row, and the fields at which it may stop
---     heading-got, heading-stops                              the same of the fields before the rows
---     heading-disks                                           what is known of N there
---     fields-split                                            a sheet is its heading, then its rows
+--     heading-got, heading-stops, heading-disks               all before the rows, and what is known of N there
 --     Rows, rows-start, rows-step, rows-stop, rows-told       the loop over the rows
 --     told-none, read-told, read-stops                        how the reader ends
---     told-accepted, told-refusal                             what its answer says of the sheet
 use mathlib.Core.Path.{_≡_, refl, sym, ap, _∙_, subst}
 use mathlib.Core.List.{List, [], _∷_, _++_, append-assoc}
 use Prim.Native.Nat.{ℕ, suc, _+_, _-_, _≤_, _<_}
 use native.Mathlib.Omega.{arith}
 use lib.ListN.{length, set, replicate, length-append}
 use lib.Seq.{set-at}
+use Rattle.basics.specs.Limits.{disksMost}
 use Rattle.field.specs.declared.Refusal.{Refusal}
+use Rattle.field.specs.declared.Verdict.the-variants.{Accepted}
 use Rattle.field.specs.Refusal.{numberOf}
-use Rattle.field.specs.Sheet.{Out, got, refused, _>>=_, pure, times}
+use Rattle.field.specs.Sheet.{Out, got, refused, pure, times}
 use Rattle.field.specs.Field.{opening, inside, end, whole}
-use Rattle.field.proofs.Sheet.{next, then, stops, halts, then-bind, Step, after-got}
-use Rattle.field.proofs.Whole.{whole-as, whole-refused, end-place}
-use Rattle.field.proofs.Values.{inside-range}
+use Rattle.field.proofs.Sheet.{next, then, stops, halts, after-got}
+use Rattle.field.proofs.Whole.{whole-next, whole-stops, end-place}
+use Rattle.field.proofs.Values.{between-range}
 use Rattle.field.proofs.Lists.{prefix, times-start, times-step, times-stop, times-done}
-use Rattle.settings.specs.declared.Answer.the-variants.{Accepted, Refused}
 use Rattle.settings.specs.declared.Row.{Row}
 use Rattle.settings.specs.declared.RowRead.{RowRead}
 use Rattle.settings.specs.declared.RowRead.the-variants.{Got}
 use Rattle.settings.specs.declared.RowRead.the-variants.{Refused as Stopped}
 use Rattle.settings.specs.declared.Settings.{Settings}
 use Rattle.settings.specs.declared.Table.{Table}
-use Rattle.settings.specs.Row.{disk, row}
+use Rattle.settings.specs.Row.{disk, noDisk, cost, load, delay, row}
 use Rattle.settings.specs.Table.{padded, table, noTable}
-use Rattle.settings.specs.Sheet.{fields, settingsSheet}
+use Rattle.settings.specs.Sheet.{kinds, heading, body, fields, settingsSheet}
 use Rattle.settings.specs.Told.{toldBy, tableOf, Told}
-use Rattle.settings.specs.Parts.{refusedWith, toldRow, heading, rowsTable}
+use Rattle.settings.specs.Parts.{refusedWith, toldRow}
 
 -- what reading a row told
 pub row-told-got : {f : RowRead} {o : Out Row} {r : Row} {e : ℕ} → toldRow f ≡ o → f ≡ Got r e → o ≡ got r e
@@ -42,62 +40,56 @@ pub row-told-refused : {f : RowRead} {o : Out Row} {r : Refusal} → toldRow f �
 unfolding toldRow
 row-told-refused h q = sym h ∙ ap toldRow q
 
+-- ---- a row
+
 module _ (s : List ℕ) (at : ℕ) where
-  -- ---- a row
-
-  pub row-first : {m : ℕ} → inside 1 1000000 s at ≡ refused m → row s at ≡ refused m
+  pub row-first : {m : ℕ} → cost s at ≡ refused m → row s at ≡ refused m
   unfolding row
-  row-first f = stops (inside 1 1000000) _ s at f
+  row-first f = stops cost _ s at f
 
-  module _ {c a : ℕ} (f : inside 1 1000000 s at ≡ got c a) where
-    pub row-second : {m : ℕ} → inside 0 100000000 s a ≡ refused m → row s at ≡ refused m
+  module _ {c a : ℕ} (f : cost s at ≡ got c a) where
+    pub row-second : {m : ℕ} → load s a ≡ refused m → row s at ≡ refused m
     unfolding row
-    row-second g = next (inside 1 1000000) _ s at f ∙ stops (inside 0 100000000) _ s a g
+    row-second g = next cost _ s at f ∙ stops load _ s a g
 
-    pub row-third : {l b m : ℕ} → inside 0 100000000 s a ≡ got l b → inside 0 1000000 s b ≡ refused m → row s at ≡ refused m
-    unfolding row
-    row-third {b = b} g h = next (inside 1 1000000) _ s at f ∙ next (inside 0 100000000) _ s a g ∙ stops (inside 0 1000000) _ s b h
+    module _ {l b : ℕ} (g : load s a ≡ got l b) where
+      pub row-third : {m : ℕ} → delay s b ≡ refused m → row s at ≡ refused m
+      unfolding row
+      row-third h = next cost _ s at f ∙ next load _ s a g ∙ stops delay _ s b h
 
-    pub row-got : {l b d e : ℕ} → inside 0 100000000 s a ≡ got l b → inside 0 1000000 s b ≡ got d e → row s at ≡ got (disk c l d) e
-    unfolding row pure
-    row-got {b = b} g h = next (inside 1 1000000) _ s at f ∙ next (inside 0 100000000) _ s a g ∙ next (inside 0 1000000) _ s b h
+      pub row-got : {d e : ℕ} → delay s b ≡ got d e → row s at ≡ got (disk c l d) e
+      unfolding row pure
+      row-got h = next cost _ s at f ∙ next load _ s a g ∙ next delay _ s b h
 
--- ---- the fields before the rows
+-- ---- all before the rows
 
 module _ (unit t : ℕ) (s : List ℕ) (at : ℕ) where
-  pub heading-stops : {m : ℕ} → opening 1 unit t s at ≡ refused m → heading unit t s at ≡ refused m
+  pub heading-stops : {m : ℕ} → opening kinds unit t s at ≡ refused m → heading unit t s at ≡ refused m
   unfolding heading
-  heading-stops f = halts (opening 1 unit t) _ s at f
+  heading-stops f = halts (opening kinds unit t) _ s at f
 
-  pub heading-got : {v e : ℕ} → opening 1 unit t s at ≡ got v e → heading unit t s at ≡ inside 1 64 s e
+  pub heading-got : {v e : ℕ} → opening kinds unit t s at ≡ got v e → heading unit t s at ≡ inside 1 disksMost 6 s e
   unfolding heading
-  heading-got f = then (opening 1 unit t) _ s at f
+  heading-got f = then (opening kinds unit t) _ s at f
 
--- N is at most 64
-pub heading-disks : (unit t : ℕ) (s : List ℕ) (at n e : ℕ) → heading unit t s at ≡ got n e → n ≤ 64
-unfolding heading
-heading-disks unit t s at n e h =
-    let w : Step (opening 1 unit t s at) (λ _ m. inside 1 64 s m) n e = after-got (opening 1 unit t) s at n e (inside 1 64) h in
-    inside-range s (w .mid) 1 64 n e (w .last) .1
-
--- ---- a sheet is its heading, then its rows and its end
-
-fields-split : (unit t : ℕ) (s : List ℕ) (at : ℕ) → fields unit t s at ≡ (heading unit t >>= rowsTable) s at
-unfolding fields heading rowsTable
-fields-split unit t s at = sym (then-bind (opening 1 unit t) (inside 1 64) (λ n. times n row >>= λ rows. pure (table n rows)) s at)
+  -- N is 1 to 64
+  pub heading-disks : {n e : ℕ} → heading unit t s at ≡ got n e → (1 ≤ n) × (n ≤ disksMost)
+  unfolding heading
+  heading-disks {n} {e} h =
+      let w = after-got (opening kinds unit t) s at n e (inside 1 disksMost 6) h in between-range 1 disksMost 6 6 s (w .mid) (w .last)
 
 -- ---- the loop over the rows
 
 -- one row more in the place of a row of 0
-padded-more : (rs : List Row) (r : Row) (i : ℕ) → length rs ≡ i → i < 64 → set (padded rs) i r ≡ padded (rs ++ (r ∷ []))
+padded-more : (rs : List Row) (r : Row) (i : ℕ) → length rs ≡ i → i < disksMost → set (padded rs) i r ≡ padded (rs ++ (r ∷ []))
 unfolding padded
 padded-more rs r i e h =
-    let k : 64 - length rs ≡ suc (64 - (i + 1)) = omega (arith, e) in
-    let m : 64 - length (rs ++ (r ∷ [])) ≡ 64 - (i + 1) = omega (arith, e, length-append rs (r ∷ [])) in
-    ap (λ (n : ℕ). set (rs ++ replicate n (disk 0 0 0)) i r) k
-    ∙ set-at rs (disk 0 0 0) (replicate (64 - (i + 1)) (disk 0 0 0)) r i e
-    ∙ sym (append-assoc rs (r ∷ []) (replicate (64 - (i + 1)) (disk 0 0 0)))
-    ∙ ap (λ (n : ℕ). (rs ++ (r ∷ [])) ++ replicate n (disk 0 0 0)) (sym m)
+    let k : disksMost - length rs ≡ suc (disksMost - (i + 1)) = omega (arith, e) in
+    let m : disksMost - length (rs ++ (r ∷ [])) ≡ disksMost - (i + 1) = omega (arith, e, length-append rs (r ∷ [])) in
+    ap (λ (n : ℕ). set (rs ++ replicate n noDisk) i r) k
+    ∙ set-at rs noDisk (replicate (disksMost - (i + 1)) noDisk) r i e
+    ∙ sym (append-assoc rs (r ∷ []) (replicate (disksMost - (i + 1)) noDisk))
+    ∙ ap (λ (n : ℕ). (rs ++ (r ∷ [])) ++ replicate n noDisk) (sym m)
 
 -- i rows of n are read: the table holds them, and the rest is as the definition says
 pub record Rows (n : ℕ) (s : List ℕ) (start : ℕ) (rows : List Row) (at i : ℕ) : Type 0 where
@@ -110,10 +102,11 @@ pub record Rows (n : ℕ) (s : List ℕ) (start : ℕ) (rows : List Row) (at i :
 -- none yet, in the empty table
 pub rows-start : (n : ℕ) (s : List ℕ) (start : ℕ) {T : Table} → T ≡ noTable → Rows n s start (T .rows) start 0
 unfolding noTable table
-rows-start n s start q = record { done = []; count = refl; below = omega arith; spec = times-start row s n start; held = ap (λ x. x .rows) q }
+rows-start n s start q =
+    record { done = []; count = refl; below = omega arith; spec = times-start row s n start; held = ap (λ x. x .rows) q }
 
 module _ {n : ℕ} {s : List ℕ} {start : ℕ} {rows : List Row} {at i : ℕ} (w : Rows n s start rows at i) where
-  pub rows-step : {r : Row} {e : ℕ} → n ≤ 64 → i < n → row s at ≡ got r e → Rows n s start (set rows i r) e (i + 1)
+  pub rows-step : {r : Row} {e : ℕ} → n ≤ disksMost → i < n → row s at ≡ got r e → Rows n s start (set rows i r) e (i + 1)
   rows-step {r} {e} l h f = record {
     done = w .done ++ (r ∷ []);
     count = omega (arith, w .count, length-append (w .done) (r ∷ []));
@@ -123,52 +116,50 @@ module _ {n : ℕ} {s : List ℕ} {start : ℕ} {rows : List Row} {at i : ℕ} (
   }
 
   -- a row that is refused
-  pub rows-stop : {m : ℕ} → i < n → row s at ≡ refused m → whole (rowsTable n) s start ≡ refused m
-  unfolding whole rowsTable
-  rows-stop h f = stops (rowsTable n) _ s start (stops (times n row) _ s start (w .spec ∙ times-stop row s n i at (w .done) h f))
+  pub rows-stop : {m : ℕ} → i < n → row s at ≡ refused m → whole (body n) s start ≡ refused m
+  unfolding whole body
+  rows-stop h f =
+      stops (body n) _ s start (stops (times n row) _ s start (w .spec ∙ times-stop row s n i at (w .done) h f))
 
-  all-rows : n ≤ i → rowsTable n s start ≡ got (table n (w .done)) at
-  unfolding rowsTable pure
+  all-rows : n ≤ i → body n s start ≡ got (table n (w .done)) at
+  unfolding body pure
   all-rows h = next (times n row) _ s start (w .spec ∙ times-done row s n i at (w .done) h)
 
   -- bytes after the last row
-  pub rows-extra : {m : ℕ} → n ≤ i → end s at ≡ refused m → whole (rowsTable n) s start ≡ refused m
+  pub rows-extra : {m : ℕ} → n ≤ i → end s at ≡ refused m → whole (body n) s start ≡ refused m
   unfolding whole
-  rows-extra h f = next (rowsTable n) _ s start (all-rows h) ∙ halts end _ s at f
+  rows-extra h f = next (body n) _ s start (all-rows h) ∙ halts end _ s at f
 
   -- none
-  pub rows-told : {v e : ℕ} → n ≤ i → end s at ≡ got v e → Told (length s) (whole (rowsTable n) s start) (record { answer = Accepted; table = record { disks = n; rows = rows } })
+  pub rows-told : {v e : ℕ} → n ≤ i → end s at ≡ got v e
+      → Told (length s) (whole (body n) s start) (record { answer = Accepted; table = record { disks = n; rows = rows } })
   unfolding whole pure table toldBy tableOf
   rows-told {v} {e} h f =
-      let g : whole (rowsTable n) s start ≡ got (table n (w .done)) e = next (rowsTable n) _ s start (all-rows h) ∙ then end _ s at f in
+      let g = next (body n) _ s start (all-rows h) ∙ then end _ s at f in
       let t : record { disks = n; rows = rows } ≡ table n (w .done) = ap (λ x. record { disks = n; rows = x }) (w .held) in
-      record { answer = ap (λ x. got x (length s)) t ∙ ap (got (table n (w .done))) (sym (end-place s at v e f)) ∙ sym g; table = t ∙ ap tableOf (sym g) }
+      record {
+        answer = ap (λ x. got x (length s)) t ∙ ap (got (table n (w .done))) (sym (end-place s at v e f)) ∙ sym g;
+        table = t ∙ ap tableOf (sym g);
+      }
 
 -- ---- how the reader ends
 
 -- refused: no table
 pub told-none : {n : ℕ} {o : Out Table} {r : Settings} (e : Refusal) → o ≡ refused (numberOf e) → r ≡ refusedWith e → Told n o r
 unfolding refusedWith toldBy tableOf
-told-none {n} {o} {r} e h q = record { answer = ap (λ x. toldBy n (x .answer) (x .table)) q ∙ sym h; table = ap (λ x. x .table) q ∙ ap tableOf (sym h) }
+told-none {n} e h q = record {
+  answer = ap (λ x. toldBy n (x .answer) (x .table)) q ∙ sym h;
+  table = ap (λ x. x .table) q ∙ ap tableOf (sym h);
+}
 
 module _ (unit t : ℕ) (s : List ℕ) where
   -- after its heading a sheet is its rows and its end
-  pub read-told : {n e : ℕ} {r : Settings} → heading unit t s 0 ≡ got n e → Told (length s) (whole (rowsTable n) s e) r → Told (length s) (settingsSheet unit t s 0) r
-  unfolding settingsSheet
-  read-told {n} {e} {r} h w = subst (λ o. Told (length s) o r) (sym (whole-as (fields unit t) s 0 (rowsTable n) e (fields-split unit t s 0 ∙ next (heading unit t) rowsTable s 0 h))) w
+  pub read-told : {n e : ℕ} {r : Settings} → heading unit t s 0 ≡ got n e → Told (length s) (whole (body n) s e) r
+      → Told (length s) (settingsSheet unit t s 0) r
+  unfolding settingsSheet fields
+  read-told {r = r} h w = subst (λ o. Told (length s) o r) (sym (whole-next (heading unit t) body s 0 h)) w
 
   -- a heading that is refused
   pub read-stops : {m : ℕ} → heading unit t s 0 ≡ refused m → settingsSheet unit t s 0 ≡ refused m
-  unfolding settingsSheet
-  read-stops h = whole-refused (fields unit t) s 0 (fields-split unit t s 0 ∙ stops (heading unit t) rowsTable s 0 h)
-
--- ---- what the answer says of the sheet
-
-module _ {n : ℕ} {o : Out Table} {r : Settings} (w : Told n o r) where
-  pub told-accepted : r .answer ≡ Accepted → o ≡ got (r .table) n
-  unfolding toldBy
-  told-accepted h = sym (w .answer) ∙ ap (λ x. toldBy n x (r .table)) h
-
-  pub told-refusal : {e : Refusal} → r .answer ≡ Refused e → o ≡ refused (numberOf e)
-  unfolding toldBy
-  told-refusal h = sym (w .answer) ∙ ap (λ x. toldBy n x (r .table)) h
+  unfolding settingsSheet fields
+  read-stops h = whole-stops (heading unit t) body s 0 h

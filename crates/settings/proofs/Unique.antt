@@ -7,8 +7,8 @@ use Rattle.field.specs.Refusal.{numberOf}
 use Rattle.field.specs.Send.{Sent}
 use Rattle.field.proofs.Sends.{sent-unique}
 use Rattle.field.proofs.Unique.{number-injective}
-use Rattle.settings.specs.declared.Answer.{Answer}
-use Rattle.settings.specs.declared.Answer.the-variants.{Accepted, Refused}
+use Rattle.field.specs.declared.Verdict.{Verdict}
+use Rattle.field.specs.declared.Verdict.the-variants.{Accepted, Refused}
 use Rattle.settings.specs.declared.Settings.{Settings}
 use Rattle.settings.specs.declared.Table.{Table}
 use Rattle.settings.specs.Table.{noTable}
@@ -21,7 +21,7 @@ pub empty-unique : (a b : Table) → a ≡ noTable → b ≡ noTable → a ≡ b
 empty-unique a b p q = p ∙ sym q
 
 -- two answers that say the same are the same
-answer-injective : (n : ℕ) (T : Table) (a b : Answer) → toldBy n a T ≡ toldBy n b T → a ≡ b
+answer-injective : (n : ℕ) (T : Table) (a b : Verdict) → toldBy n a T ≡ toldBy n b T → a ≡ b
 unfolding toldBy
 answer-injective n T Accepted Accepted h = refl
 answer-injective n T Accepted (Refused e) h = cc
@@ -29,12 +29,15 @@ answer-injective n T (Refused e) Accepted h = cc
 answer-injective n T (Refused e) (Refused f) h = let m : numberOf e ≡ numberOf f = cc in ap Refused (number-injective e f m)
 
 -- `read`: the answer and the table
-pub read-unique : (unit t : ℕ) (s : List ℕ) (n : ℕ) (a b : Settings) → Told n (settingsSheet unit t s 0) a → Told n (settingsSheet unit t s 0) b → a ≡ b
+pub read-unique : (unit t : ℕ) (s : List ℕ) (n : ℕ) (a b : Settings)
+    → Told n (settingsSheet unit t s 0) a → Told n (settingsSheet unit t s 0) b → a ≡ b
 read-unique unit t s n a b p q =
-    let same : a .table ≡ b .table = p .table ∙ sym (q .table) in
-    let told : toldBy n (a .answer) (b .table) ≡ toldBy n (b .answer) (b .table) = ap (toldBy n (a .answer)) (sym same) ∙ p .answer ∙ sym (q .answer) in
-    ap (λ x. record { answer = x; table = a .table }) (answer-injective n (b .table) (a .answer) (b .answer) told) ∙ ap (λ x. record { answer = b .answer; table = x }) same
+    let same = p .table ∙ sym (q .table) in
+    let told = ap (toldBy n (a .answer)) (sym same) ∙ p .answer ∙ sym (q .answer) in
+    ap (λ x. record { answer = x; table = a .table }) (answer-injective n (b .table) (a .answer) (b .answer) told)
+    ∙ ap (λ x. record { answer = b .answer; table = x }) same
 
 -- `write`: the answer and the buffer
-pub write-unique : (unit t : ℕ) (cs ls ds out : List ℕ) (a b : Written) (x y : List ℕ) → Sent (settingsDraft unit t cs ls ds) out a x → Sent (settingsDraft unit t cs ls ds) out b y → (a ≡ b) × (x ≡ y)
+pub write-unique : (unit t : ℕ) (cs ls ds out : List ℕ) (a b : Written) (x y : List ℕ)
+    → Sent (settingsDraft unit t cs ls ds) out a x → Sent (settingsDraft unit t cs ls ds) out b y → (a ≡ b) × (x ≡ y)
 write-unique unit t cs ls ds out a b x y p q = sent-unique (settingsDraft unit t cs ls ds) out a b x y p q

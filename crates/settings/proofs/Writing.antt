@@ -1,36 +1,37 @@
 -- Laws of the writer.
 --     RowsPut, puts-start, puts-room, puts-step, puts-done      the loop over the rows
---     sheet-length                     the length of a sheet by its parts
---     draft-refused, draft-out, draft-whole, Sheeted, draft-none, draft-sheet     what the width of a draft says
---     width-tenancy .. width-sheet     the tests of the writer, one by one
---     write-none, write-long, write-done     the three ways in which it ends
-use mathlib.Core.Path.{_≡_, refl, sym, ap, _∙_, subst}
-use mathlib.Core.Bool.{true, false, _&&_}
+--     ListsFit, lists-fit, fit-lists, unfit-lists     what the test of the three lists says
+--     draft-sheet, draft-either          a draft is a sheet, or none with 6
+--     sheet-length                       the length of a sheet by its parts
+--     write-unfit, write-out, write-long, write-done     the four ways in which the writer ends
+use mathlib.Core.Path.{_≡_, sym, ap, _∙_, subst}
+use mathlib.Core.Bool.{true, false}
 use mathlib.Core.List.{List, _++_}
 use Prim.Native.Nat.{ℕ, _+_, _≤_, _<_}
 use native.Mathlib.Omega.{arith}
-use borrow.Author.Tests.{eqb-true, leb-true, ltb-true, eq-eqb, ne-eqb, le-leb, lt-leb, le-ltb, lt-ltb}
+use borrow.Author.Tests.{eqb-true, leb-true, ltb-true, eq-eqb, le-leb, lt-ltb}
 use lib.Dec.{eqb, leb, ltb}
 use lib.ListN.{length, take, getD, length-append}
 use lib.Seq.{take-all}
+use Rattle.basics.specs.Limits.{disksMost}
+use Rattle.basics.proofs.Choice.{pick-true, pick-false}
+use Rattle.basics.proofs.Count.{gate-some, gate-none}
+use Rattle.basics.proofs.Tests.{by-cases, not-here, and-left, and-right, and-both}
 use Rattle.number.specs.Encode.{encode, widthOf}
-use Rattle.basics.proofs.Choice.{pick-true, pick-false, pick-elim}
-use Rattle.basics.proofs.Tests.{by-cases, and-both, second-false, both}
 use Rattle.number.proofs.Encode.{width-one}
 use Rattle.field.specs.Put.{spellAll, openingBytes, Laid}
 use Rattle.field.specs.declared.Refusal.the-variants.{OutOfRange, NoRoom}
 use Rattle.field.specs.declared.Written.the-variants.{Length, Refused}
-use Rattle.field.specs.Refusal.{numberOf}
 use Rattle.field.specs.Send.{sheet, none, Sent}
 use Rattle.field.proofs.Puts.{laid-none, laid-length, laid-join, spell-room}
 use Rattle.field.proofs.Opened.{opening-length}
 use Rattle.field.proofs.Sends.{sent-refused, sent-long, sent-fits}
-use Rattle.settings.specs.declared.Row.{Row}
-use Rattle.settings.specs.Row.{disk, allInRange, rowBytes}
-use Rattle.settings.specs.Draft.{rowsOf, headBytes, sheetBytes, equalLengths, settingsDraft}
-use Rattle.settings.specs.Parts.{rowsWidth, draftWidth}
 use Rattle.field.proofs.Spell.{spell-more}
-use Rattle.settings.proofs.Rows.{length-rows, rows-sized, rows-out}
+use Rattle.settings.specs.declared.Row.{Row}
+use Rattle.settings.specs.Row.{noDisk, allInRange, rowBytes}
+use Rattle.settings.specs.Draft.{rowsOf, headingBytes, sheetBytes, listsFit, settingsDraft}
+use Rattle.settings.specs.Parts.{rowsWidth}
+use Rattle.settings.proofs.Rows.{length-rows, rows-some}
 
 -- ---- the loop over the rows
 
@@ -39,169 +40,158 @@ pub record RowsPut (rows : List Row) (out : List ℕ) (start : ℕ) (mid : List 
   pub below : i ≤ length rows
   pub done : Laid out start (spellAll rowBytes (take i rows)) mid p
 
-pub puts-start : (rows : List Row) (out : List ℕ) (start : ℕ) → start + length (spellAll rowBytes rows) ≤ length out → RowsPut rows out start out start 0
+pub puts-start : (rows : List Row) (out : List ℕ) (start : ℕ) → start + length (spellAll rowBytes rows) ≤ length out
+    → RowsPut rows out start out start 0
 unfolding spellAll
 puts-start rows out start h = record { below = omega arith; done = laid-none out start (omega arith) }
 
 module _ {rows : List Row} {out : List ℕ} {start : ℕ} {mid : List ℕ} {p i : ℕ} (w : RowsPut rows out start mid p i) where
-  module _ (h : i < length rows) {r : Row} (e : getD rows i (disk 0 0 0) ≡ r) where
+  module _ (h : i < length rows) {r : Row} (e : getD rows i noDisk ≡ r) where
     more : spellAll rowBytes (take (i + 1) rows) ≡ spellAll rowBytes (take i rows) ++ rowBytes r
-    more = sym (spell-more rowBytes rows i (disk 0 0 0) h) ∙ ap (λ x. spellAll rowBytes (take i rows) ++ rowBytes x) e
+    more = sym (spell-more rowBytes rows i noDisk h) ∙ ap (λ x. spellAll rowBytes (take i rows) ++ rowBytes x) e
 
     -- one row more has room
     pub puts-room : start + length (spellAll rowBytes rows) ≤ length out → p + length (rowBytes r) ≤ length mid
-    puts-room l = subst (λ (x : Row). p + length (rowBytes x) ≤ length mid) e (spell-room rowBytes rows i (disk 0 0 0) h (w .done) l)
+    puts-room l = subst (λ (x : Row). p + length (rowBytes x) ≤ length mid) e (spell-room rowBytes rows i noDisk h (w .done) l)
 
     pub puts-step : {after : List ℕ} {next : ℕ} → Laid mid p (rowBytes r) after next → RowsPut rows out start after next (i + 1)
-    puts-step {after} {next} u = record { below = omega arith; done = subst (λ (x : List ℕ). Laid out start x after next) (sym more) (laid-join (w .done) u) }
+    puts-step {after} {next} u = record {
+      below = omega arith;
+      done = subst (λ (x : List ℕ). Laid out start x after next) (sym more) (laid-join (w .done) u);
+    }
 
   pub puts-done : length rows ≤ i → Laid out start (spellAll rowBytes rows) mid p
   puts-done h = subst (λ (x : List Row). Laid out start (spellAll rowBytes x) mid p) (take-all i rows h) (w .done)
 
+-- ---- the test of the three lists
+
+pub record ListsFit (t : ℕ) (cs ls ds : List ℕ) : Type 0 where
+  pub rented : 0 < t
+  pub loads : length ls ≡ length cs
+  pub delays : length ds ≡ length cs
+  pub some : 1 ≤ length cs
+  pub few : length cs ≤ disksMost
+
+module _ {t : ℕ} {cs ls ds : List ℕ} where
+  pub lists-fit : listsFit t cs ls ds ≡ true → ListsFit t cs ls ds
+  unfolding listsFit
+  lists-fit h =
+      let b = and-right (ltb 0 t) _ h in
+      let d = and-right (eqb (length ls) (length cs)) _ b in
+      let e = and-right (eqb (length ds) (length cs)) _ d in
+      record {
+        rented = ltb-true _ _ (and-left (ltb 0 t) _ h);
+        loads = eqb-true _ _ (and-left (eqb (length ls) (length cs)) _ b);
+        delays = eqb-true _ _ (and-left (eqb (length ds) (length cs)) _ d);
+        some = leb-true _ _ (and-left (leb 1 (length cs)) _ e);
+        few = leb-true _ _ (and-right (leb 1 (length cs)) _ e);
+      }
+
+  pub fit-lists : ListsFit t cs ls ds → listsFit t cs ls ds ≡ true
+  unfolding listsFit
+  fit-lists w =
+      and-both _ _ (lt-ltb _ _ (w .rented))
+      (and-both _ _ (eq-eqb _ _ (w .loads))
+      (and-both _ _ (eq-eqb _ _ (w .delays)) (and-both _ _ (le-leb _ _ (w .some)) (le-leb _ _ (w .few)))))
+
+  pub unfit-lists : (ListsFit t cs ls ds → ⊥) → false ≡ listsFit t cs ls ds
+  unfit-lists h = sym (not-here (listsFit t cs ls ds) (λ f. h (lists-fit f)))
+
 -- ---- the length of a sheet
 
-pub head-length : (unit t n : ℕ) → n < 128 → length (headBytes unit t n) ≡ 2 + widthOf unit + widthOf t
-unfolding headBytes widthOf
-head-length unit t n h = omega (arith, length-append (openingBytes 1 unit t) (encode n), opening-length 1 unit t, width-one 1 (omega arith), width-one n h)
+heading-length : (unit t n : ℕ) → n ≤ disksMost → length (headingBytes unit t n) ≡ 2 + widthOf unit + widthOf t
+unfolding headingBytes widthOf
+heading-length unit t n h =
+    omega (
+      arith,
+      length-append (openingBytes 1 unit t) (encode n),
+      opening-length 1 unit t,
+      width-one 1 (omega arith),
+      width-one n (omega arith),
+    )
 
-pub sheet-length : (unit t : ℕ) (rows : List Row) → length rows < 128 → length (sheetBytes unit t rows) ≡ 2 + widthOf unit + widthOf t + length (spellAll rowBytes rows)
+pub sheet-length : (unit t : ℕ) (rows : List Row) → length rows ≤ disksMost
+    → length (sheetBytes unit t rows) ≡ 2 + widthOf unit + widthOf t + length (spellAll rowBytes rows)
 unfolding sheetBytes
-sheet-length unit t rows h = omega (arith, length-append (headBytes unit t (length rows)) (spellAll rowBytes rows), head-length unit t (length rows) h)
+sheet-length unit t rows h =
+    omega (
+      arith,
+      length-append (headingBytes unit t (length rows)) (spellAll rowBytes rows),
+      heading-length unit t (length rows) h,
+    )
 
--- ---- what the width of a draft says
+-- ---- drafts, and how the writer ends
 
 module _ (unit t : ℕ) (cs ls ds : List ℕ) where
-  -- tenancy 0, or lists of unequal length
-  pub draft-refused : (ltb 0 t && equalLengths cs ls ds) ≡ false → 0 ≡ draftWidth (settingsDraft unit t cs ls ds)
-  unfolding settingsDraft draftWidth
-  draft-refused f = ap draftWidth (sym (pick-false _ _ f))
-
-  -- a count or a value out of its range
-  pub draft-out : (leb 1 (length cs) && (leb (length cs) 64 && allInRange (rowsOf cs ls ds))) ≡ false → 0 ≡ draftWidth (settingsDraft unit t cs ls ds)
-  unfolding settingsDraft draftWidth
-  draft-out f = pick-elim (λ d. 0 ≡ draftWidth d) _ _ _ (λ _. ap draftWidth (sym (pick-false _ _ f))) (λ _. refl)
-
-  -- all is well
-  pub draft-whole : (ltb 0 t && equalLengths cs ls ds) ≡ true → (leb 1 (length cs) && (leb (length cs) 64 && allInRange (rowsOf cs ls ds))) ≡ true → settingsDraft unit t cs ls ds ≡ sheet (sheetBytes unit t (rowsOf cs ls ds))
-  unfolding settingsDraft
-  draft-whole p q = pick-true _ _ p ∙ pick-true _ _ q
-
-  -- a draft that is a sheet
+  -- the lists fit, all rows are in range, and the draft is their sheet
   pub record Sheeted : Type 0 where
-    pub is : settingsDraft unit t cs ls ds ≡ sheet (sheetBytes unit t (rowsOf cs ls ds))
-    pub rented : 0 < t
-    pub loads : length ls ≡ length cs
-    pub delays : length ds ≡ length cs
-    pub some : 1 ≤ length cs
-    pub few : length cs ≤ 64
+    pub fit : ListsFit t cs ls ds
     pub good : allInRange (rowsOf cs ls ds) ≡ true
+    pub is : settingsDraft unit t cs ls ds ≡ sheet (sheetBytes unit t (rowsOf cs ls ds))
+    pub long : length (rowsOf cs ls ds) ≡ length cs
 
-  sheeted : (ltb 0 t && equalLengths cs ls ds) ≡ true → (leb 1 (length cs) && (leb (length cs) 64 && allInRange (rowsOf cs ls ds))) ≡ true → Sheeted
-  unfolding equalLengths
-  sheeted p q =
-      let a : (ltb 0 t ≡ true) × ((eqb (length ls) (length cs) && eqb (length ds) (length cs)) ≡ true) = both _ _ p in
-      let b : (eqb (length ls) (length cs) ≡ true) × (eqb (length ds) (length cs) ≡ true) = both _ _ (a .1) in
-      let d : (leb 1 (length cs) ≡ true) × ((leb (length cs) 64 && allInRange (rowsOf cs ls ds)) ≡ true) = both _ _ q in
-      let e : (leb (length cs) 64 ≡ true) × (allInRange (rowsOf cs ls ds) ≡ true) = both _ _ (d .1) in
-      record {
-        is = draft-whole p q;
-        rented = ltb-true _ _ (a .0);
-        loads = eqb-true _ _ (b .0);
-        delays = eqb-true _ _ (b .1);
-        some = leb-true _ _ (d .0);
-        few = leb-true _ _ (e .0);
-        good = e .1;
-      }
+  pub draft-sheet : ListsFit t cs ls ds → allInRange (rowsOf cs ls ds) ≡ true → Sheeted
+  unfolding settingsDraft
+  draft-sheet f g = record {
+    fit = f;
+    good = g;
+    is = pick-true _ _ (fit-lists f) ∙ pick-true _ _ g;
+    long = length-rows cs ls ds (f .loads) (f .delays);
+  }
 
   -- every draft is none, with 6, or a sheet
   pub draft-either : {X : Type 0} → (settingsDraft unit t cs ls ds ≡ none 6 → X) → (Sheeted → X) → X
   unfolding settingsDraft
   draft-either f g =
-      by-cases (ltb 0 t && equalLengths cs ls ds)
-      (λ p.
-      by-cases (leb 1 (length cs) && (leb (length cs) 64 && allInRange (rowsOf cs ls ds)))
-      (λ q. g (sheeted p q))
-      (λ n. f (pick-true _ _ p ∙ pick-false _ _ n)))
+      by-cases (listsFit t cs ls ds)
+      (λ p. by-cases (allInRange (rowsOf cs ls ds)) (λ q. g (draft-sheet (lists-fit p) q)) (λ n. f (pick-true _ _ p ∙ pick-false _ _ n)))
       (λ n. f (pick-false _ _ n))
 
-  -- no bytes: there is none
-  pub draft-none : draftWidth (settingsDraft unit t cs ls ds) ≡ 0 → settingsDraft unit t cs ls ds ≡ none 6
-  unfolding draftWidth
-  draft-none h =
-      draft-either (λ n. n)
-      (λ w. absurd (omega (arith, sym (ap draftWidth (w .is)) ∙ h, sheet-length unit t (rowsOf cs ls ds) (omega (arith, length-rows cs ls ds (w .loads) (w .delays), w .few)))))
+  module _ (out : List ℕ) where
+    pub write-unfit : listsFit t cs ls ds ≡ false → Sent (settingsDraft unit t cs ls ds) out (Refused OutOfRange) out
+    unfolding settingsDraft
+    write-unfit n = subst (λ d. Sent d out (Refused OutOfRange) out) (sym (pick-false _ _ n)) (sent-refused OutOfRange out)
 
-  -- some: there is a sheet
-  pub draft-sheet : (draftWidth (settingsDraft unit t cs ls ds) ≡ 0 → ⊥) → Sheeted
-  unfolding draftWidth
-  draft-sheet h = draft-either (λ n. absurd (h (ap draftWidth n))) (λ w. w)
+    module _ {w : ℕ} (f : ListsFit t cs ls ds) (e : w ≡ rowsWidth (rowsOf cs ls ds)) where
+      pub write-out : w ≡ 0 → Sent (settingsDraft unit t cs ls ds) out (Refused OutOfRange) out
+      unfolding settingsDraft rowsWidth
+      write-out z =
+          let long = length-rows cs ls ds (f .loads) (f .delays) in
+          let n = gate-none (allInRange (rowsOf cs ls ds)) _ (rows-some (rowsOf cs ls ds) (omega (arith, f .some))) (sym e ∙ z) in
+          subst (λ d. Sent d out (Refused OutOfRange) out) (sym (pick-true _ _ (fit-lists f) ∙ pick-false _ _ n))
+          (sent-refused OutOfRange out)
 
-  -- ---- the tests of the writer, one by one
+      module _ (z : w ≡ 0 → ⊥) where
+        sheeted : Sheeted
+        unfolding rowsWidth
+        sheeted = draft-sheet f (gate-some (allInRange (rowsOf cs ls ds)) _ (λ n. z (e ∙ n)) .0)
 
-  pub width-tenancy : t ≡ 0 → 0 ≡ draftWidth (settingsDraft unit t cs ls ds)
-  width-tenancy z = draft-refused (ap (λ b. b && equalLengths cs ls ds) (le-ltb 0 t (omega arith)))
+        -- the rows' bytes, and the whole sheet's
+        width : w ≡ length (spellAll rowBytes (rowsOf cs ls ds))
+        unfolding rowsWidth
+        width = e ∙ gate-some (allInRange (rowsOf cs ls ds)) _ (λ n. z (e ∙ n)) .1
 
-  pub width-loads : (length ls ≡ length cs → ⊥) → 0 ≡ draftWidth (settingsDraft unit t cs ls ds)
-  unfolding equalLengths
-  width-loads z = draft-refused (second-false (ltb 0 t) (ap (λ b. b && eqb (length ds) (length cs)) (ne-eqb _ _ z)))
+        module _ {a b : ℕ} (p : a ≡ widthOf unit) (q : b ≡ widthOf t) where
+          whole : length (sheetBytes unit t (rowsOf cs ls ds)) ≡ 2 + a + b + w
+          whole = omega (arith, width, sheet-length unit t (rowsOf cs ls ds) (omega (arith, sheeted .long, f .few)))
 
-  pub width-delays : (length ds ≡ length cs → ⊥) → 0 ≡ draftWidth (settingsDraft unit t cs ls ds)
-  unfolding equalLengths
-  width-delays z = draft-refused (second-false (ltb 0 t) (second-false (eqb (length ls) (length cs)) (ne-eqb _ _ z)))
+          pub write-long : length out < 2 + a + b + w → Sent (settingsDraft unit t cs ls ds) out (Refused NoRoom) out
+          write-long l =
+              subst (λ d. Sent d out (Refused NoRoom) out) (sym (sheeted .is))
+              (sent-long (sheetBytes unit t (rowsOf cs ls ds)) out (omega (arith, whole)))
 
-  pub width-few : length cs < 1 → 0 ≡ draftWidth (settingsDraft unit t cs ls ds)
-  width-few l = draft-out (ap (λ b. b && (leb (length cs) 64 && allInRange (rowsOf cs ls ds))) (lt-leb 1 (length cs) l))
+          module _ (l : 2 + a + b + w ≤ length out) where
+            pub heading-room : length (headingBytes unit t (length cs)) ≤ length out
+            heading-room = omega (arith, heading-length unit t (length cs) (f .few))
 
-  pub width-many : 64 < length cs → 0 ≡ draftWidth (settingsDraft unit t cs ls ds)
-  width-many l = draft-out (second-false (leb 1 (length cs)) (ap (λ b. b && allInRange (rowsOf cs ls ds)) (lt-leb (length cs) 64 l)))
+            module _ {mid : List ℕ} {at : ℕ} (h : Laid out 0 (headingBytes unit t (length cs)) mid at) where
+              pub rows-room : at + length (spellAll rowBytes (rowsOf cs ls ds)) ≤ length mid
+              rows-room = omega (arith, heading-length unit t (length cs) (f .few), width, h .place, laid-length h)
 
-  module _ {w : ℕ} (p : length ls ≡ length cs) (q : length ds ≡ length cs) (some : 1 ≤ length cs) (e : w ≡ rowsWidth (rowsOf cs ls ds)) where
-    pub width-rows : w ≡ 0 → 0 ≡ draftWidth (settingsDraft unit t cs ls ds)
-    width-rows z =
-        draft-out (second-false (leb 1 (length cs)) (second-false (leb (length cs) 64) (rows-out (rowsOf cs ls ds) w (omega (arith, length-rows cs ls ds p q)) e z)))
-
-    pub width-sheet : {a b : ℕ} → (t ≡ 0 → ⊥) → length cs ≤ 64 → (w ≡ 0 → ⊥) → a ≡ widthOf unit → b ≡ widthOf t → 2 + a + b + w ≡ draftWidth (settingsDraft unit t cs ls ds)
-    unfolding equalLengths draftWidth
-    width-sheet {a} {b} r few z f g =
-        let k : (allInRange (rowsOf cs ls ds) ≡ true) × (w ≡ length (spellAll rowBytes (rowsOf cs ls ds))) = rows-sized (rowsOf cs ls ds) w e z in
-        let s : settingsDraft unit t cs ls ds ≡ sheet (sheetBytes unit t (rowsOf cs ls ds)) =
-        draft-whole (and-both _ _ (lt-ltb 0 t (omega arith)) (and-both _ _ (eq-eqb _ _ p) (eq-eqb _ _ q))) (and-both _ _ (le-leb _ _ some) (and-both _ _ (le-leb _ _ few) (k .0))) in
-        omega (arith, ap draftWidth s, f, g, k .1, sheet-length unit t (rowsOf cs ls ds) (omega (arith, length-rows cs ls ds p q)))
-
-  -- ---- the three ways in which the writer ends
-
-  module _ {w : ℕ} (e : w ≡ draftWidth (settingsDraft unit t cs ls ds)) where
-    pub write-none : (out : List ℕ) → w ≡ 0 → Sent (settingsDraft unit t cs ls ds) out (Refused OutOfRange) out
-    unfolding numberOf
-    write-none out z = subst (λ d. Sent d out (Refused OutOfRange) out) (sym (draft-none (sym e ∙ z))) (sent-refused OutOfRange out)
-
-    module _ (z : w ≡ 0 → ⊥) where
-      pub write-sheet : Sheeted
-      write-sheet = draft-sheet (λ k. z (e ∙ k))
-
-      length-sheet : w ≡ length (headBytes unit t (length cs)) + length (spellAll rowBytes (rowsOf cs ls ds))
-      unfolding draftWidth sheetBytes
-      length-sheet =
-          e ∙ ap draftWidth (write-sheet .is) ∙ length-append (headBytes unit t (length (rowsOf cs ls ds))) (spellAll rowBytes (rowsOf cs ls ds))
-          ∙ ap (λ (n : ℕ). length (headBytes unit t n) + length (spellAll rowBytes (rowsOf cs ls ds))) (length-rows cs ls ds (write-sheet .loads) (write-sheet .delays))
-
-      pub write-long : (out : List ℕ) → length out < w → Sent (settingsDraft unit t cs ls ds) out (Refused NoRoom) out
-      unfolding draftWidth
-      write-long out l =
-          subst (λ d. Sent d out (Refused NoRoom) out) (sym (write-sheet .is))
-          (sent-long (sheetBytes unit t (rowsOf cs ls ds)) out (omega (arith, e ∙ ap draftWidth (write-sheet .is))))
-
-      module _ (out : List ℕ) (l : w ≤ length out) where
-        pub head-room : length (headBytes unit t (length cs)) ≤ length out
-        head-room = omega (arith, length-sheet)
-
-        module _ {mid : List ℕ} {p : ℕ} (h : Laid out 0 (headBytes unit t (length cs)) mid p) where
-          pub rows-room : p + length (spellAll rowBytes (rowsOf cs ls ds)) ≤ length mid
-          rows-room = omega (arith, length-sheet, h .place, laid-length h)
-
-          pub write-done : {after : List ℕ} {next : ℕ} → Laid mid p (spellAll rowBytes (rowsOf cs ls ds)) after next → Sent (settingsDraft unit t cs ls ds) out (Length next) after
-          unfolding sheetBytes
-          write-done {after} {next} r =
-              subst (λ d. Sent d out (Length next) after) (sym (write-sheet .is))
-              (sent-fits (subst (λ (n : ℕ). Laid out 0 (headBytes unit t n ++ spellAll rowBytes (rowsOf cs ls ds)) after next)
-              (sym (length-rows cs ls ds (write-sheet .loads) (write-sheet .delays))) (laid-join h r)))
+              pub write-done : {after : List ℕ} {next : ℕ} → Laid mid at (spellAll rowBytes (rowsOf cs ls ds)) after next
+                  → Sent (settingsDraft unit t cs ls ds) out (Length next) after
+              unfolding sheetBytes
+              write-done {after} {next} r =
+                  subst (λ d. Sent d out (Length next) after) (sym (sheeted .is))
+                  (sent-fits (subst (λ (n : ℕ). Laid out 0 (headingBytes unit t n ++ spellAll rowBytes (rowsOf cs ls ds)) after next)
+                  (sym (sheeted .long)) (laid-join h r)))

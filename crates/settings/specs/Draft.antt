@@ -6,6 +6,7 @@ use lib.ListN.{length}
 use lib.Dec.{eqb, leb, ltb}
 use Rattle.basics.specs.Choice.{pick}
 use Rattle.number.specs.Encode.{encode}
+use Rattle.basics.specs.Limits.{disksMost}
 use Rattle.field.specs.Put.{spellAll, openingBytes}
 use Rattle.field.specs.Send.{Draft, sheet, none}
 use Rattle.settings.specs.declared.Row.{Row}
@@ -19,22 +20,21 @@ rowsOf (c ∷ cs) (l ∷ ls) [] = []
 rowsOf (c ∷ cs) (l ∷ ls) (d ∷ ds) = disk c l d ∷ rowsOf cs ls ds
 
 -- the bytes of the fields before the rows
-unfoldable pub headBytes : ℕ → ℕ → ℕ → List ℕ
-headBytes unit t n = openingBytes 1 unit t ++ encode n
+unfoldable pub headingBytes : ℕ → ℕ → ℕ → List ℕ
+headingBytes unit t n = openingBytes 1 unit t ++ encode n
 
 -- the bytes of a sheet
 unfoldable pub sheetBytes : ℕ → ℕ → List Row → List ℕ
-sheetBytes unit t rows = headBytes unit t (length rows) ++ spellAll rowBytes rows
+sheetBytes unit t rows = headingBytes unit t (length rows) ++ spellAll rowBytes rows
 
--- whether the lists are of one length
-unfoldable pub equalLengths : List ℕ → List ℕ → List ℕ → Bool
-equalLengths cs ls ds = eqb (length ls) (length cs) && eqb (length ds) (length cs)
+-- whether there is a tenancy, the lists are of one length, and N is 1 to 64
+unfoldable pub listsFit : ℕ → List ℕ → List ℕ → List ℕ → Bool
+listsFit t cs ls ds =
+    ltb 0 t && (eqb (length ls) (length cs) && (eqb (length ds) (length cs) && (leb 1 (length cs) && leb (length cs) disksMost)))
 
--- 6 for tenancy 0, lists of unequal length, N outside 1 to 64, a cost, load or delay out of range
+-- 6 where they don't fit, and where a cost, load or delay is out of its range
 unfoldable pub settingsDraft : ℕ → ℕ → List ℕ → List ℕ → List ℕ → Draft
 settingsDraft unit t cs ls ds =
-    pick (ltb 0 t && equalLengths cs ls ds)
-    (pick (leb 1 (length cs) && (leb (length cs) 64 && allInRange (rowsOf cs ls ds)))
-    (sheet (sheetBytes unit t (rowsOf cs ls ds)))
-    (none 6))
+    pick (listsFit t cs ls ds)
+    (pick (allInRange (rowsOf cs ls ds)) (sheet (sheetBytes unit t (rowsOf cs ls ds))) (none 6))
     (none 6)

@@ -1,34 +1,47 @@
 -- A disk's row on a settings sheet.
+--     disk, noDisk            a row's values; a row of 0
+--     cost, load, delay       the fields of a row, each within its range
+--     row                     the row as it is read
+--     inRange, allInRange     whether the values of a row, and of each row, are in these ranges
+--     rowBytes                the row as it is written
 use Prim.Native.Nat.{ℕ}
 use mathlib.Core.Bool.{Bool, true, _&&_}
 use mathlib.Core.List.{List, [], _∷_, _++_}
 use lib.Dec.{leb}
+use Rattle.basics.specs.Limits.{costMost, loadMost, delayMost}
 use Rattle.number.specs.Encode.{encode}
-use Rattle.field.specs.Sheet.{Parser, _>>=_, _>>_, pure}
+use Rattle.field.specs.Sheet.{Parser, _>>=_, pure}
 use Rattle.field.specs.Field.{inside}
 use Rattle.settings.specs.declared.Row.{Row}
 
--- a disk's cost, load and delay
 abbrev pub disk : ℕ → ℕ → ℕ → Row
 disk c l d = record { cost = c; load = l; delay = d }
 
--- a row as it is read: cost 1 to 1,000,000, load 0 to 100,000,000, delay 0 to 1,000,000
+abbrev pub noDisk : Row
+noDisk = disk 0 0 0
+
+abbrev pub cost : Parser ℕ
+cost = inside 1 costMost 6
+
+abbrev pub load : Parser ℕ
+load = inside 0 loadMost 6
+
+abbrev pub delay : Parser ℕ
+delay = inside 0 delayMost 6
+
 unfoldable pub row : Parser Row
 row = do
-  cost ← inside 1 1000000
-  load ← inside 0 100000000
-  delay ← inside 0 1000000
-  pure (disk cost load delay)
+  c ← cost
+  l ← load
+  d ← delay
+  pure (disk c l d)
 
--- whether all three are in their ranges
 unfoldable pub inRange : Row → Bool
-inRange r = leb 1 (r .cost) && (leb (r .cost) 1000000 && (leb (r .load) 100000000 && leb (r .delay) 1000000))
+inRange r = leb 1 (r .cost) && (leb (r .cost) costMost && (leb (r .load) loadMost && leb (r .delay) delayMost))
 
--- whether each row is in range
 unfoldable pub allInRange : List Row → Bool
 allInRange [] = true
 allInRange (r ∷ rs) = inRange r && allInRange rs
 
--- a row as it is written
 unfoldable pub rowBytes : Row → List ℕ
 rowBytes r = encode (r .cost) ++ (encode (r .load) ++ encode (r .delay))

@@ -4,13 +4,14 @@ use mathlib.Core.Bool.{true}
 use mathlib.Core.List.{List, [], _++_, map}
 use mathlib.Core.Path.{_≡_}
 use lib.ListN.{length, take, replicate}
+use Rattle.basics.specs.Limits.{disksMost}
 use Rattle.settings.specs.declared.Row.{Row}
 use Rattle.settings.specs.declared.Table.{Table}
-use Rattle.settings.specs.Row.{disk, allInRange}
+use Rattle.settings.specs.Row.{noDisk, allInRange}
 
 -- 64 rows: those given, and rows of 0 behind them
 unfoldable pub padded : List Row → List Row
-padded rs = rs ++ replicate (64 - length rs) (disk 0 0 0)
+padded rs = rs ++ replicate (disksMost - length rs) noDisk
 
 -- N disks with their rows
 unfoldable pub table : ℕ → List Row → Table
@@ -38,6 +39,6 @@ delays t = map (λ r. r .delay) (disksOf t)
 pub record Filled (t : Table) : Type 0 where
   pub given : List Row
   pub count : length given ≡ t .disks
-  pub few : t .disks ≤ 64
+  pub few : t .disks ≤ disksMost
   pub good : allInRange given ≡ true
   pub held : t .rows ≡ padded given

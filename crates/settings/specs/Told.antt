@@ -3,14 +3,14 @@ use Prim.Native.Nat.{ℕ}
 use mathlib.Core.Path.{_≡_}
 use Rattle.field.specs.Refusal.{numberOf}
 use Rattle.field.specs.Sheet.{Out, got, refused}
-use Rattle.settings.specs.declared.Answer.{Answer}
-use Rattle.settings.specs.declared.Answer.the-variants.{Accepted, Refused}
+use Rattle.field.specs.declared.Verdict.{Verdict}
+use Rattle.field.specs.declared.Verdict.the-variants.{Accepted, Refused}
 use Rattle.settings.specs.declared.Settings.{Settings}
 use Rattle.settings.specs.declared.Table.{Table}
 use Rattle.settings.specs.Table.{noTable}
 
 -- the table of a sheet of this length, or a refusal's number
-unfoldable pub toldBy : ℕ → Answer → Table → Out Table
+unfoldable pub toldBy : ℕ → Verdict → Table → Out Table
 toldBy n Accepted t = got t n
 toldBy n (Refused e) t = refused (numberOf e)
 

@@ -1,20 +1,26 @@
 // The settings sheet: kind 1, unit, tenancy, disk count N, then for each disk its cost, load and delay.
+use basics::COST_MOST;
+use basics::DELAY_MOST;
+use basics::DISKS;
+use basics::LOAD_MOST;
 use field::Field;
 use field::Refusal;
+use field::Verdict;
 use field::Written;
 ghost use mathlib.Core.Path.{_≡_};
 ghost use Prim.Native.Nat.{_+_, _≤_};
 ghost use lib.ListN.{length};
+ghost use Rattle.basics.specs.Limits.{disksMost};
 ghost use Rattle.field.specs.Field.{whole};
 ghost use Rattle.field.specs.Put.{spellAll, Laid};
 ghost use Rattle.field.specs.Send.{Sent};
 ghost use Rattle.field.specs.Told.{told};
 ghost use Rattle.settings.specs.Row.{disk, row, rowBytes};
 ghost use Rattle.settings.specs.Table.{noTable};
-ghost use Rattle.settings.specs.Sheet.{settingsSheet};
+ghost use Rattle.settings.specs.Sheet.{heading as headingOf, body as bodyOf, settingsSheet};
 ghost use Rattle.settings.specs.Told.{Told};
-ghost use Rattle.settings.specs.Draft.{rowsOf, headBytes, settingsDraft};
-ghost use Rattle.settings.specs.Parts.{refusedWith, toldRow, heading, rowsTable, rowWidth, rowsWidth, draftWidth};
+ghost use Rattle.settings.specs.Draft.{rowsOf, headingBytes, listsFit, settingsDraft};
+ghost use Rattle.settings.specs.Parts.{refusedWith, toldRow, rowWidth, rowsWidth};
 
 // One disk: the cost of a block, the load when a request comes, the delay.
 pub struct Row {
@@ -26,17 +32,12 @@ pub struct Row {
 // N disks; the rows from N on are 0.
 pub struct Table {
     pub disks: u32,
-    pub rows: [Row; 64],
-}
-
-pub enum Answer {
-    Accepted,
-    Refused(Refusal),
+    pub rows: [Row; DISKS],
 }
 
 // What reading a sheet gives; on refusal the table is empty.
 pub struct Settings {
-    pub answer: Answer,
+    pub answer: Verdict,
     pub table: Table,
 }
 
@@ -57,7 +58,7 @@ pub fn empty() -> Table
     };
     Table {
         disks: 0,
-        rows: [zero; 64],
+        rows: [zero; DISKS],
     }
 }
 
@@ -67,7 +68,7 @@ fn refuse(refusal: Refusal) -> Settings
 {
     let table = empty();
     Settings {
-        answer: Answer::Refused(refusal),
+        answer: Verdict::Refused(refusal),
         table,
     }
 }
@@ -76,9 +77,21 @@ fn refuse(refusal: Refusal) -> Settings
 fn row_at(s: &[u8], at: usize) -> RowRead
     ensures { λ r. ⌜ toldRow r ≡ row (now (s .entry)) at ⌝ }
 {
-    match field::ranged(s, at, 1, 1_000_000) {
-        Field::Got(cost, second) => match field::ranged(s, second, 0, 100_000_000) {
-            Field::Got(load, third) => match field::ranged(s, third, 0, 1_000_000) {
+    match field::inside(s, at, 1, COST_MOST, Refusal::OutOfRange) {
+        Field::Got(cost, second) => match field::inside(
+            s,
+            second,
+            0,
+            LOAD_MOST,
+            Refusal::OutOfRange,
+        ) {
+            Field::Got(load, third) => match field::inside(
+                s,
+                third,
+                0,
+                DELAY_MOST,
+                Refusal::OutOfRange,
+            ) {
                 Field::Got(delay, next) => RowRead::Got(Row { cost, load, delay }, next),
                 Field::Refused(e) => RowRead::Refused(e),
             },
@@ -88,20 +101,20 @@ fn row_at(s: &[u8], at: usize) -> RowRead
     }
 }
 
-// The fields before the rows: kind, unit, tenancy, and N as the value.
-fn head(s: &[u8], unit: u32, tenancy: u32) -> Field
-    ensures { λ r. ⌜ told r ≡ heading unit tenancy (now (s .entry)) 0 ⌝ }
+// All before the rows: N and the place after it.
+fn heading(s: &[u8], unit: u32, tenancy: u32) -> Field
+    ensures { λ r. ⌜ told r ≡ headingOf unit tenancy (now (s .entry)) 0 ⌝ }
 {
-    match field::opening(s, 1, unit, tenancy) {
-        Field::Got(_, at) => field::ranged(s, at, 1, 64),
+    match field::opening(s, &[1], unit, tenancy) {
+        Field::Got(_, at) => field::inside(s, at, 1, DISKS as u32, Refusal::OutOfRange),
         Field::Refused(e) => Field::Refused(e),
     }
 }
 
 // The rows of `disks` disks from a place on, and then the end of the sheet.
 fn body(s: &[u8], start: usize, disks: u32) -> Settings
-    requires { ⌜ disks ≤ 64 ⌝ }
-    ensures { λ r. ⌜ Told (length (now (s .entry))) (whole (rowsTable disks) (now (s .entry)) start) r ⌝ }
+    requires { ⌜ disks ≤ disksMost ⌝ }
+    ensures { λ r. ⌜ Told (length (now (s .entry))) (whole (bodyOf disks) (now (s .entry)) start) r ⌝ }
 {
     let none = empty();
     let mut rows = none.rows;
@@ -120,9 +133,9 @@ fn body(s: &[u8], start: usize, disks: u32) -> Settings
         }
         i += 1;
     }
-    match field::finish(s, at) {
+    match field::end(s, at) {
         Field::Got(_, _) => Settings {
-            answer: Answer::Accepted,
+            answer: Verdict::Accepted,
             table: Table { disks, rows },
         },
         Field::Refused(e) => refuse(e),
@@ -133,7 +146,7 @@ fn body(s: &[u8], start: usize, disks: u32) -> Settings
 pub fn read(s: &[u8], unit: u32, tenancy: u32) -> Settings
     ensures { λ r. ⌜ Told (length (now (s .entry))) (settingsSheet unit tenancy (now (s .entry)) 0) r ⌝ }
 {
-    match head(s, unit, tenancy) {
+    match heading(s, unit, tenancy) {
         Field::Got(disks, at) => body(s, at, disks),
         Field::Refused(e) => refuse(e),
     }
@@ -146,13 +159,13 @@ fn row_width(cost: u32, load: u32, delay: u32) -> usize
     if cost < 1 {
         return 0;
     }
-    if 1_000_000 < cost {
+    if COST_MOST < cost {
         return 0;
     }
-    if 100_000_000 < load {
+    if LOAD_MOST < load {
         return 0;
     }
-    if 1_000_000 < delay {
+    if DELAY_MOST < delay {
         return 0;
     }
     number::width(cost) + number::width(load) + number::width(delay)
@@ -161,7 +174,7 @@ fn row_width(cost: u32, load: u32, delay: u32) -> usize
 // The bytes of all rows, or 0 where a value is out of its range.
 fn rows_width(costs: &[u32], loads: &[u32], delays: &[u32]) -> usize
     requires { ⌜ (length (now loads) ≡ length (now costs)) × (length (now delays) ≡ length (now costs)) ⌝ }
-    requires { ⌜ length (now costs) ≤ 64 ⌝ }
+    requires { ⌜ length (now costs) ≤ disksMost ⌝ }
     ensures { λ r. ⌜ r ≡ rowsWidth (rowsOf (now (costs .entry)) (now (loads .entry)) (now (delays .entry))) ⌝ }
 {
     let mut total = 0;
@@ -191,7 +204,8 @@ fn put_row(cost: u32, load: u32, delay: u32, out: &mut [u8], at: usize) -> usize
 fn put_rows(costs: &[u32], loads: &[u32], delays: &[u32], out: &mut [u8], start: usize) -> usize
     requires { ⌜ (length (now loads) ≡ length (now costs)) × (length (now delays) ≡ length (now costs)) ⌝ }
     requires { ⌜ start + length (spellAll rowBytes (rowsOf (now costs) (now loads) (now delays))) ≤ length (now out) ⌝ }
-    ensures { λ r. ⌜ Laid (now (out .entry)) start (spellAll rowBytes (rowsOf (now (costs .entry)) (now (loads .entry)) (now (delays .entry)))) (now (out .exit)) r ⌝ }
+    ensures { λ r. ⌜ Laid (now (out .entry)) start
+        (spellAll rowBytes (rowsOf (now (costs .entry)) (now (loads .entry)) (now (delays .entry)))) (now (out .exit)) r ⌝ }
 {
     let mut at = start;
     let mut i = 0;
@@ -203,38 +217,34 @@ fn put_rows(costs: &[u32], loads: &[u32], delays: &[u32], out: &mut [u8], start:
 }
 
 // Puts the fields before the rows and answers the place after them.
-fn put_head(unit: u32, tenancy: u32, disks: u32, out: &mut [u8]) -> usize
-    requires { ⌜ length (headBytes unit tenancy disks) ≤ length (now out) ⌝ }
-    ensures { λ r. ⌜ Laid (now (out .entry)) 0 (headBytes unit tenancy disks) (now (out .exit)) r ⌝ }
+fn put_heading(unit: u32, tenancy: u32, disks: u32, out: &mut [u8]) -> usize
+    requires { ⌜ length (headingBytes unit tenancy disks) ≤ length (now out) ⌝ }
+    ensures { λ r. ⌜ Laid (now (out .entry)) 0 (headingBytes unit tenancy disks) (now (out .exit)) r ⌝ }
 {
     let at = field::put_opening(1, unit, tenancy, out);
     field::put(disks, out, at)
 }
 
-// The bytes of the sheet, or 0 where it is none.
-fn sheet_width(unit: u32, tenancy: u32, costs: &[u32], loads: &[u32], delays: &[u32]) -> usize
-    ensures { λ r. ⌜ r ≡ draftWidth (settingsDraft unit tenancy (now (costs .entry)) (now (loads .entry)) (now (delays .entry))) ⌝ }
+// Whether there is a tenancy, the lists are of one length, and N is within its range.
+fn lists_fit(tenancy: u32, costs: &[u32], loads: &[u32], delays: &[u32]) -> bool
+    ensures { λ r. ⌜ r ≡ listsFit tenancy (now (costs .entry)) (now (loads .entry)) (now (delays .entry)) ⌝ }
 {
     if tenancy == 0 {
-        return 0;
+        return false;
     }
     if loads.len() != costs.len() {
-        return 0;
+        return false;
     }
     if delays.len() != costs.len() {
-        return 0;
+        return false;
     }
     if costs.len() < 1 {
-        return 0;
+        return false;
     }
-    if 64 < costs.len() {
-        return 0;
+    if DISKS < costs.len() {
+        return false;
     }
-    let rows = rows_width(costs, loads, delays);
-    if rows == 0 {
-        return 0;
-    }
-    2 + number::width(unit) + number::width(tenancy) + rows
+    true
 }
 
 // Writes a settings sheet of the disks' costs, loads and delays.
@@ -246,15 +256,20 @@ pub fn write(
     delays: &[u32],
     out: &mut [u8],
 ) -> Written
-    ensures { λ r. ⌜ Sent (settingsDraft unit tenancy (now (costs .entry)) (now (loads .entry)) (now (delays .entry))) (now (out .entry)) r (now (out .exit)) ⌝ }
+    ensures { λ r. ⌜ Sent (settingsDraft unit tenancy (now (costs .entry)) (now (loads .entry)) (now (delays .entry)))
+        (now (out .entry)) r (now (out .exit)) ⌝ }
 {
-    let length = sheet_width(unit, tenancy, costs, loads, delays);
-    if length == 0 {
+    if !lists_fit(tenancy, costs, loads, delays) {
         return Written::Refused(Refusal::OutOfRange);
     }
-    if out.len() < length {
+    let rows = rows_width(costs, loads, delays);
+    if rows == 0 {
+        return Written::Refused(Refusal::OutOfRange);
+    }
+    // Kind and N are one byte each.
+    if out.len() < 2 + number::width(unit) + number::width(tenancy) + rows {
         return Written::Refused(Refusal::NoRoom);
     }
-    let at = put_head(unit, tenancy, costs.len() as u32, out);
+    let at = put_heading(unit, tenancy, costs.len() as u32, out);
     Written::Length(put_rows(costs, loads, delays, out, at))
 }

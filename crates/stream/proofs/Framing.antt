@@ -7,6 +7,7 @@ use borrow.Author.Tests.{eq-eqb, ne-eqb, le-leb, lt-leb, leb-true, leb-false}
 use lib.Dec.{leb}
 use lib.ListN.{length, take, drop, length-drop}
 use lib.Seq.{length-take-le}
+use Rattle.basics.specs.Limits.{requestMost}
 use Rattle.number.specs.Decode.{Decoded, value, decode, refused as bad}
 use Rattle.basics.proofs.Choice.{pick-true, pick-false}
 use Rattle.basics.proofs.Tests.{by-cases}
@@ -15,16 +16,17 @@ use Rattle.field.specs.declared.Refusal.{Refusal}
 use Rattle.field.specs.Field.{taken, number, inside}
 use Rattle.field.specs.Refusal.{numberOf}
 use Rattle.field.specs.Sheet.{Out, got, refused, Parser, pure}
-use Rattle.field.proofs.Readers.{number-past, inside-got, inside-above, inside-stops}
+use Rattle.field.proofs.Readers.{number-past, between-got, between-above, between-stops}
 use Rattle.field.proofs.Sheet.{next, stops}
 use Rattle.field.proofs.Unique.{number-injective}
-use Rattle.field.proofs.Values.{inside-range}
+use Rattle.field.proofs.Values.{between-range}
 use Rattle.stream.specs.declared.Span.{Span}
 use Rattle.stream.specs.declared.Span.the-variants.{Part, Refused as NoSheet}
 use Rattle.stream.specs.declared.Call.{Call}
 use Rattle.stream.specs.declared.Call.the-variants.{Rent, Settings, Request, Return, Refused}
 use Rattle.stream.specs.Frame.{bytes, sheet, part, Within, Spans}
-use Rattle.stream.specs.Call.{Asked, rents, returns, ofTenancy, ofSettings, ofRequest, none, behind, asked, toldCall, Held, Framed}
+use Rattle.stream.specs.Call.{roomMost, Asked, rents, returns, ofTenancy, ofSettings, ofRequest, none, behind, asked, toldCall, Held}
+use Rattle.stream.specs.Call.{Framed}
 
 -- ---- a number lies within the input
 
@@ -40,19 +42,20 @@ unfolding number
 number-within s at v e h =
     by-cases (leb at (length s))
     (λ t. ended-within s at v e (decode (drop at s)) refl (leb-true _ _ t) h)
-    (λ f. absurd (let x : refused 1 ≡ got v e = sym (number-past s at (leb-false _ _ f)) ∙ h in let z : _≡_ {A = ℕ} 0 1 = cc in omega arith))
+    (λ f. absurd (let x : refused 1 ≡ got v e = sym (number-past s at (leb-false _ _ f)) ∙ h in
+    let z : _≡_ {A = ℕ} 0 1 = cc in omega arith))
 
 -- ---- a sheet
 
 module _ (s : List ℕ) (at n e : ℕ) (h : number s at ≡ got n e) where
-  pub sheet-large : 9229 < n → sheet s at ≡ refused 6
+  pub sheet-large : requestMost < n → sheet s at ≡ refused 6
   unfolding sheet
-  sheet-large l = stops (inside 0 9229) _ s at (inside-above s at n e h 0 9229 (omega arith) l)
+  sheet-large l = stops (inside 0 requestMost 6) _ s at (between-above s at h 0 requestMost 6 6 l)
 
-  module _ (l : n ≤ 9229) where
+  module _ (l : n ≤ requestMost) where
     sheet-bytes : sheet s at ≡ bytes n s e
     unfolding sheet
-    sheet-bytes = next (inside 0 9229) _ s at (inside-got s at n e h 0 9229 (omega arith) l)
+    sheet-bytes = next (inside 0 requestMost 6) _ s at (between-got s at h 0 requestMost 6 6 (omega arith) l)
 
     pub sheet-past : length s - e < n → sheet s at ≡ refused 1
     unfolding bytes
@@ -69,10 +72,11 @@ module _ (s : List ℕ) (at n e : ℕ) (h : number s at ≡ got n e) where
 
 pub sheet-stops : (s : List ℕ) (at n : ℕ) → number s at ≡ refused n → sheet s at ≡ refused n
 unfolding sheet
-sheet-stops s at n h = stops (inside 0 9229) _ s at (inside-stops s at n h 0 9229)
+sheet-stops s at n h = stops (inside 0 requestMost 6) _ s at (between-stops s at h 0 requestMost 6 6)
 
 -- what was answered of a sheet
-pub spans-part : {s : List ℕ} {o : Out (List ℕ)} {x : Span} {from to : ℕ} → Spans s o x → x ≡ Part from to → (o ≡ got (part s from to) to) × Within s from to
+pub spans-part : {s : List ℕ} {o : Out (List ℕ)} {x : Span} {from to : ℕ} → Spans s o x → x ≡ Part from to
+    → (o ≡ got (part s from to) to) × Within s from to
 unfolding Spans
 spans-part {s} {o} {x} {from} {to} w q = subst (λ (y : Span). Spans s o y) q w
 
@@ -105,7 +109,8 @@ module _ (s : List ℕ) (at : ℕ) where
   tenancy-stops ask x h = framed-refused x (stops number _ s at h)
 
   -- the sheet of settings
-  pub settings-framed : (from to : ℕ) → (sheet s at ≡ got (part s from to) to) × Within s from to → Framed s (ofSettings s at) (Settings from to)
+  pub settings-framed : (from to : ℕ) → (sheet s at ≡ got (part s from to) to) × Within s from to
+      → Framed s (ofSettings s at) (Settings from to)
   unfolding ofSettings pure toldCall Held
   settings-framed from to p = record { answer = sym (next sheet _ s at (p .0)); held = p .1 }
 
@@ -114,17 +119,25 @@ module _ (s : List ℕ) (at : ℕ) where
   settings-stops x h = framed-refused x (stops sheet _ s at h)
 
   -- a request's room and sheet
-  pub request-framed : (room e from to : ℕ) → inside 0 4096 s at ≡ got room e → (sheet s e ≡ got (part s from to) to) × Within s from to → Framed s (ofRequest s at) (Request room from to)
+  pub request-framed : (room e from to : ℕ) → inside 0 roomMost 6 s at ≡ got room e
+      → (sheet s e ≡ got (part s from to) to) × Within s from to
+      → Framed s (ofRequest s at) (Request room from to)
   unfolding ofRequest pure toldCall Held
-  request-framed room e from to h p = record { answer = sym (next (inside 0 4096) _ s at h ∙ next sheet _ s e (p .0)); held = (p .1, inside-range s at 0 4096 room e h .1) }
+  request-framed room e from to h p =
+      record {
+        answer = sym (next (inside 0 roomMost 6) _ s at h ∙ next sheet _ s e (p .0));
+        held =
+            (p .1, between-range 0 roomMost 6 6 s at h .1);
+      }
 
-  pub request-sheet-stops : (room e : ℕ) (x : Refusal) → inside 0 4096 s at ≡ got room e → sheet s e ≡ refused (numberOf x) → Framed s (ofRequest s at) (Refused x)
+  pub request-sheet-stops : (room e : ℕ) (x : Refusal) → inside 0 roomMost 6 s at ≡ got room e → sheet s e ≡ refused (numberOf x)
+      → Framed s (ofRequest s at) (Refused x)
   unfolding ofRequest
-  request-sheet-stops room e x h p = framed-refused x (next (inside 0 4096) _ s at h ∙ stops sheet _ s e p)
+  request-sheet-stops room e x h p = framed-refused x (next (inside 0 roomMost 6) _ s at h ∙ stops sheet _ s e p)
 
-  pub request-stops : (x : Refusal) → inside 0 4096 s at ≡ refused (numberOf x) → Framed s (ofRequest s at) (Refused x)
+  pub request-stops : (x : Refusal) → inside 0 roomMost 6 s at ≡ refused (numberOf x) → Framed s (ofRequest s at) (Refused x)
   unfolding ofRequest
-  request-stops x h = framed-refused x (stops (inside 0 4096) _ s at h)
+  request-stops x h = framed-refused x (stops (inside 0 roomMost 6) _ s at h)
 
   -- by the call's number
   module _ (c : ℕ) {r : Call} where
@@ -140,16 +153,23 @@ module _ (s : List ℕ) (at : ℕ) where
       module _ (n₂ : c ≡ 2 → ⊥) where
         pub third : c ≡ 3 → Framed s (ofRequest s at) r → Framed s (behind c s at) r
         unfolding behind
-        third q w = framed-same (ap (λ (p : Parser Asked). p s at) (pick-false _ _ (ne-eqb c 1 n₁) ∙ pick-false _ _ (ne-eqb c 2 n₂) ∙ pick-true _ _ (eq-eqb c 3 q))) w
+        third q w = framed-same
+            (ap (λ (p : Parser Asked). p s at) (pick-false _ _ (ne-eqb c 1 n₁) ∙ pick-false _ _ (ne-eqb c 2 n₂)
+            ∙ pick-true _ _ (eq-eqb c 3 q))) w
 
         module _ (n₃ : c ≡ 3 → ⊥) where
           pub fourth : c ≡ 4 → Framed s (ofTenancy returns s at) r → Framed s (behind c s at) r
           unfolding behind
-          fourth q w = framed-same (ap (λ (p : Parser Asked). p s at) (pick-false _ _ (ne-eqb c 1 n₁) ∙ pick-false _ _ (ne-eqb c 2 n₂) ∙ pick-false _ _ (ne-eqb c 3 n₃) ∙ pick-true _ _ (eq-eqb c 4 q))) w
+          fourth q w = framed-same
+              (ap (λ (p : Parser Asked). p s at) (pick-false _ _ (ne-eqb c 1 n₁) ∙ pick-false _ _ (ne-eqb c 2 n₂)
+              ∙ pick-false _ _ (ne-eqb c 3 n₃) ∙ pick-true _ _ (eq-eqb c 4 q))) w
 
-  pub unknown-call : (c : ℕ) → (c ≡ 1 → ⊥) → (c ≡ 2 → ⊥) → (c ≡ 3 → ⊥) → (c ≡ 4 → ⊥) → (x : Refusal) → numberOf x ≡ 3 → Framed s (behind c s at) (Refused x)
+  pub unknown-call : (c : ℕ) → (c ≡ 1 → ⊥) → (c ≡ 2 → ⊥) → (c ≡ 3 → ⊥) → (c ≡ 4 → ⊥) → (x : Refusal) → numberOf x ≡ 3
+      → Framed s (behind c s at) (Refused x)
   unfolding behind none
-  unknown-call c n₁ n₂ n₃ n₄ x k = framed-refused x (ap (λ (p : Parser Asked). p s at) (pick-false _ _ (ne-eqb c 1 n₁) ∙ pick-false _ _ (ne-eqb c 2 n₂) ∙ pick-false _ _ (ne-eqb c 3 n₃) ∙ pick-false _ _ (ne-eqb c 4 n₄)) ∙ ap refused (sym k))
+  unknown-call c n₁ n₂ n₃ n₄ x k =
+      framed-refused x (ap (λ (p : Parser Asked). p s at) (pick-false _ _ (ne-eqb c 1 n₁) ∙ pick-false _ _ (ne-eqb c 2 n₂)
+      ∙ pick-false _ _ (ne-eqb c 3 n₃) ∙ pick-false _ _ (ne-eqb c 4 n₄)) ∙ ap refused (sym k))
 
 -- the whole call
 pub call-framed : {s : List ℕ} {r : Call} (c e : ℕ) → number s 0 ≡ got c e → Framed s (behind c s e) r → Framed s (asked s 0) r
@@ -166,8 +186,10 @@ call-stops {s} x h = framed-refused x (stops number _ s 0 h)
 part-from : (s : List ℕ) (a b e : ℕ) → Within s a e → Within s b e → part s a e ≡ part s b e → a ≡ b
 unfolding part
 part-from s a b e v w q =
-    let x : length (take (e - a) (drop a s)) ≡ e - a = length-take-le (e - a) (drop a s) (omega (arith, length-drop a s, v .order, v .end)) in
-    let y : length (take (e - b) (drop b s)) ≡ e - b = length-take-le (e - b) (drop b s) (omega (arith, length-drop b s, w .order, w .end)) in
+    let x : length (take (e - a) (drop a s))
+    ≡ e - a = length-take-le (e - a) (drop a s) (omega (arith, length-drop a s, v .order, v .end)) in
+    let y : length (take (e - b) (drop b s))
+    ≡ e - b = length-take-le (e - b) (drop b s) (omega (arith, length-drop b s, w .order, w .end)) in
     omega (arith, ap length q, v .order, w .order)
 
 pub sheet-unique : (s : List ℕ) (o : Out (List ℕ)) (a b : Span) → Spans s o a → Spans s o b → a ≡ b

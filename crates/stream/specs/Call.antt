@@ -3,10 +3,11 @@
 --     asked        one call from the start of what has been read
 --     toldCall     what each answer says
 --     Framed       the promise: the answer, and that its sheet lies within what has been read
-use Prim.Native.Nat.{ℕ, _≤_}
+use Prim.Native.Nat.{ℕ, _+_, _≤_}
 use mathlib.Core.Path.{_≡_}
 use mathlib.Core.List.{List}
 use lib.Dec.{eqb}
+use Rattle.basics.specs.Limits.{requestMost}
 use Rattle.basics.specs.Choice.{pick}
 use Rattle.field.specs.Field.{number, inside}
 use Rattle.field.specs.Refusal.{numberOf}
@@ -14,6 +15,14 @@ use Rattle.field.specs.Sheet.{Out, got, refused, Parser, _>>=_, pure}
 use Rattle.stream.specs.declared.Call.{Call}
 use Rattle.stream.specs.declared.Call.the-variants.{Rent, Settings, Request, Return, Refused}
 use Rattle.stream.specs.Frame.{sheet, part, Within}
+
+-- the buffer that a call may lend for a plan
+abbrev pub roomMost : ℕ
+roomMost = 4096
+
+-- the longest call: its number, a room of two bytes, a length of two bytes, and the longest sheet
+abbrev pub callMost : ℕ
+callMost = 1 + 2 + 2 + requestMost
 
 pub data Asked : Type 0 where
   rents : ℕ → Asked
@@ -36,7 +45,7 @@ ofSettings = do
 -- 3: the length of the lent buffer, 6 above 4,096; a length and a sheet
 unfoldable pub ofRequest : Parser Asked
 ofRequest = do
-  room ← inside 0 4096
+  room ← inside 0 roomMost 6
   s ← sheet
   pure (requests room s)
 
@@ -66,7 +75,7 @@ toldCall s (Refused e) = refused (numberOf e)
 unfoldable pub Held : List ℕ → Call → Type 0
 Held s (Rent t e) = Unit
 Held s (Settings from e) = Within s from e
-Held s (Request room from e) = Within s from e × (room ≤ 4096)
+Held s (Request room from e) = Within s from e × (room ≤ roomMost)
 Held s (Return t e) = Unit
 Held s (Refused e) = Unit
 

@@ -4,6 +4,7 @@ use mathlib.Core.Path.{_≡_}
 use mathlib.Core.List.{List}
 use lib.Dec.{leb}
 use lib.ListN.{length, take, drop}
+use Rattle.basics.specs.Limits.{requestMost}
 use Rattle.basics.specs.Choice.{pick}
 use Rattle.field.specs.Field.{inside}
 use Rattle.field.specs.Refusal.{numberOf}
@@ -18,7 +19,7 @@ bytes n s at = pick (leb (at + n) (length s)) (got (take n (drop at s)) (at + n)
 -- the length of a sheet, 6 above 9,229, and that sheet
 unfoldable pub sheet : Parser (List ℕ)
 sheet = do
-  n ← inside 0 9229
+  n ← inside 0 requestMost 6
   bytes n
 
 -- the bytes from one place to another

@@ -1,9 +1,13 @@
 // Framed in a stream of bytes: a sheet behind its length, and one of the shelf's calls.
+use basics::REQUEST_MOST;
 use field::Field;
 use field::Refusal;
 ghost use Rattle.stream.specs.Call.{asked, behind, rents, returns, ofTenancy, ofSettings, ofRequest, Framed};
 ghost use Rattle.stream.specs.Frame.{Spans};
 ghost use Rattle.stream.specs.Frame.{sheet as framedSheet};
+
+// The buffer that a call may lend for a plan, at most.
+pub const ROOM_MOST: usize = 4096;
 
 // Where a framed sheet stands, or why there is none.
 pub enum Span {
@@ -24,15 +28,16 @@ pub enum Call {
 pub fn sheet(s: &[u8], at: usize) -> Span
     ensures { λ r. ⌜ Spans (now (s .entry)) (framedSheet (now (s .entry)) at) r ⌝ }
 {
-    match field::any(s, at) {
+    match field::number(s, at) {
         Field::Got(n, next) => {
-            if 9229 < n {
+            let size = n as usize;
+            if REQUEST_MOST < size {
                 return Span::Refused(Refusal::OutOfRange);
             }
-            if s.len() - next < n as usize {
+            if s.len() - next < size {
                 return Span::Refused(Refusal::SheetEnds);
             }
-            Span::Part(next, next + n as usize)
+            Span::Part(next, next + size)
         }
         Field::Refused(e) => Span::Refused(e),
     }
@@ -42,7 +47,7 @@ pub fn sheet(s: &[u8], at: usize) -> Span
 fn rent(s: &[u8], at: usize) -> Call
     ensures { λ r. ⌜ Framed (now (s .entry)) (ofTenancy rents (now (s .entry)) at) r ⌝ }
 {
-    match field::any(s, at) {
+    match field::number(s, at) {
         Field::Got(t, e) => Call::Rent(t, e),
         Field::Refused(e) => Call::Refused(e),
     }
@@ -62,7 +67,7 @@ fn settings(s: &[u8], at: usize) -> Call
 fn request(s: &[u8], at: usize) -> Call
     ensures { λ r. ⌜ Framed (now (s .entry)) (ofRequest (now (s .entry)) at) r ⌝ }
 {
-    match field::ranged(s, at, 0, 4096) {
+    match field::inside(s, at, 0, ROOM_MOST as u32, Refusal::OutOfRange) {
         Field::Got(room, next) => match sheet(s, next) {
             Span::Part(from, to) => Call::Request(room as usize, from, to),
             Span::Refused(e) => Call::Refused(e),
@@ -75,7 +80,7 @@ fn request(s: &[u8], at: usize) -> Call
 fn give_back(s: &[u8], at: usize) -> Call
     ensures { λ r. ⌜ Framed (now (s .entry)) (ofTenancy returns (now (s .entry)) at) r ⌝ }
 {
-    match field::any(s, at) {
+    match field::number(s, at) {
         Field::Got(t, e) => Call::Return(t, e),
         Field::Refused(e) => Call::Refused(e),
     }
@@ -104,7 +109,7 @@ fn follow(s: &[u8], call: u32, at: usize) -> Call
 pub fn read_call(s: &[u8]) -> Call
     ensures { λ r. ⌜ Framed (now (s .entry)) (asked (now (s .entry)) 0) r ⌝ }
 {
-    match field::any(s, 0) {
+    match field::number(s, 0) {
         Field::Got(call, at) => follow(s, call, at),
         Field::Refused(e) => Call::Refused(e),
     }

@@ -1,2 +1,3 @@
-pub mod Sums
+pub mod Counts
 pub mod Stuck
+pub mod Rises

@@ -1,3 +1,2 @@
-pub mod Table
-pub mod Among
 pub mod Times
+pub mod Parts

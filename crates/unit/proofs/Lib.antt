@@ -1,9 +1,4 @@
 pub mod Lives
 pub mod Sound
-pub mod Rows
-pub mod Plans
-pub mod Found
-pub mod Asked
-pub mod Within
-pub mod Clause
+pub mod Replies
 pub mod Unique

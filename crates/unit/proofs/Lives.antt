@@ -1,25 +1,21 @@
 -- Laws of the calls: what each comes to, case by case.
 use mathlib.Core.Path.{_≡_, refl, sym, ap, _∙_}
-use mathlib.Core.Bool.{Bool, true, false, _&&_}
+use mathlib.Core.Bool.{true, false, _&&_}
 use mathlib.Core.List.{List}
 use Prim.Native.Nat.{ℕ, _≤_, _<_}
-use native.Mathlib.Omega.{arith}
 use borrow.Author.Tests.{lt-ltb, le-ltb, eq-eqb, ne-eqb}
-use lib.Dec.{eqb, ltb}
-use Rattle.basics.specs.Choice.{pick}
 use Rattle.basics.proofs.Choice.{pick-true, pick-false}
 use Rattle.field.specs.Refusal.{numberOf}
 use Rattle.field.specs.declared.Refusal.{Refusal}
-use Rattle.field.specs.Sheet.{Out, got, refused as refusedSheet}
-use Rattle.settings.specs.declared.Answer.{Answer}
-use Rattle.settings.specs.declared.Answer.the-variants.{Accepted, Refused}
+use Rattle.field.specs.Sheet.{Out}
+use Rattle.field.specs.declared.Verdict.the-variants.{Accepted, Refused}
 use Rattle.settings.specs.declared.Settings.{Settings}
 use Rattle.settings.specs.declared.Table.{Table}
 use Rattle.settings.specs.Table.{noTable}
 use Rattle.settings.specs.Sheet.{settingsSheet}
 use Rattle.settings.specs.Told.{toldBy, Told}
 use Rattle.unit.specs.declared.Unit.{Unit}
-use Rattle.unit.specs.Life.{Verdict, Outcome, takes, refuses, rent, settled, set, giveBack}
+use Rattle.unit.specs.Life.{takes, refuses, rent, settled, set, giveBack}
 use Rattle.unit.specs.Unit.{newUnit, tenancyOf, tenanted, withTable, returned}
 
 pub new-anew : (n : ℕ) (x : Table) → x ≡ noTable → record { number = n; last = 0; rented = false; table = x } ≡ newUnit n
@@ -49,7 +45,8 @@ module _ (u : Unit) where
     rent-taken h l = pick-false _ _ h ∙ pick-true _ _ (lt-ltb _ _ l)
 
     -- with a table that was made anew
-    pub rent-anew : u .rented ≡ false → u .last < t → (x : Table) → x ≡ noTable → rent u t ≡ takes (record { number = u .number; last = t; rented = true; table = x })
+    pub rent-anew : u .rented ≡ false → u .last < t → (x : Table) → x ≡ noTable
+        → rent u t ≡ takes (record { number = u .number; last = t; rented = true; table = x })
     unfolding tenanted
     rent-anew h l x e = rent-taken h l ∙ ap (λ y. takes (record { number = u .number; last = t; rented = true; table = y })) (sym e)
 
@@ -57,7 +54,8 @@ module _ (u : Unit) where
     unfolding giveBack _&&_
     back-taken h e = rw (h, eq-eqb t (u .last) e) (pick-true _ _ refl)
 
-    pub back-anew : u .rented ≡ true → t ≡ u .last → (x : Table) → x ≡ noTable → giveBack u t ≡ takes (record { number = u .number; last = u .last; rented = false; table = x })
+    pub back-anew : u .rented ≡ true → t ≡ u .last → (x : Table) → x ≡ noTable
+        → giveBack u t ≡ takes (record { number = u .number; last = u .last; rented = false; table = x })
     unfolding returned
     back-anew h q x e = back-taken h q ∙ ap (λ y. takes (record { number = u .number; last = u .last; rented = false; table = y })) (sym e)
 

@@ -1,23 +1,20 @@
 -- What holds of every unit: it holds of a new one, and each call keeps it.
-use mathlib.Core.Path.{_≡_, refl, sym, ap, _∙_, subst}
-use mathlib.Core.Bool.{Bool, true, false, _&&_}
+use mathlib.Core.Path.{_≡_, refl}
+use mathlib.Core.Bool.{_&&_}
 use mathlib.Core.List.{List}
-use Prim.Native.Nat.{ℕ, _≤_, _<_}
+use Prim.Native.Nat.{ℕ}
 use native.Mathlib.Omega.{arith}
 use borrow.Author.Tests.{ltb-true}
 use lib.Dec.{eqb, ltb}
-use Rattle.basics.specs.Choice.{pick}
 use Rattle.basics.proofs.Choice.{pick-elim}
 use Rattle.field.specs.Sheet.{Out, got, refused as refusedSheet}
 use Rattle.settings.specs.declared.Table.{Table}
 use Rattle.settings.specs.Sheet.{settingsSheet}
-use Rattle.settings.specs.Table.{noTable, Filled}
-use Rattle.settings.proofs.Accepted.{accepted-filled, none-filled, sheet-steps, SheetGot}
-use Rattle.field.proofs.Values.{tenancy-within}
+use Rattle.settings.proofs.Accepted.{accepted-filled, accepted-tenancy, none-filled}
 use Rattle.unit.specs.declared.Unit.{Unit}
 use Rattle.unit.specs.Life.{Outcome, takes, refuses, rent, settled, set, giveBack}
 use Rattle.unit.specs.Sound.{Sound}
-use Rattle.unit.specs.Unit.{newUnit, tenancyOf, tenanted, withTable, returned}
+use Rattle.unit.specs.Unit.{newUnit, tenancyOf, tenanted, returned}
 use Rattle.unit.proofs.Lives.{tenancy-free}
 
 pub sound-new : (n : ℕ) → Sound (newUnit n)
@@ -30,7 +27,11 @@ module _ (u : Unit) (w : Sound u) where
   sound-rent t =
       pick-elim (λ (o : Outcome). Sound (o .unit)) (u .rented) _ _ (λ _. w) λ f.
       pick-elim (λ (o : Outcome). Sound (o .unit)) (ltb (u .last) t) _ _
-      (λ l. record { tenancy = λ _. omega (arith, ltb-true (u .last) t l); cleared = λ h. absurd (let z : _≡_ {A = ℕ} 0 1 = cc in omega arith); filled = none-filled })
+      (λ l. record {
+        tenancy = λ _. omega (arith, ltb-true (u .last) t l);
+        cleared = λ h. absurd (let z : _≡_ {A = ℕ} 0 1 = cc in omega arith);
+        filled = none-filled;
+      })
       (λ _. w)
 
   pub sound-back : (t : ℕ) → Sound (giveBack u t .unit)
@@ -42,13 +43,12 @@ module _ (u : Unit) (w : Sound u) where
 
   -- what a settings sheet said, whatever it was
   settled-sound : (s : List ℕ) (o : Out Table) → settingsSheet (u .number) (tenancyOf u) s 0 ≡ o → Sound (settled u o .unit)
-  unfolding settled takes refuses withTable
+  unfolding settled takes refuses
   settled-sound s (refusedSheet n) h = w
   settled-sound s (got T e) h =
-      let k : SheetGot (u .number) (tenancyOf u) s T e = sheet-steps (u .number) (tenancyOf u) s T e h in
       record {
         tenancy = w .tenancy;
-        cleared = λ f. absurd (omega (arith, tenancy-free u f, tenancy-within (tenancyOf u) s (k .third) (k .tenant) (k .fourth) (k .tenancy-got)));
+        cleared = λ f. absurd (omega (arith, tenancy-free u f, accepted-tenancy (u .number) (tenancyOf u) s T e h));
         filled = accepted-filled (u .number) (tenancyOf u) s T e h .0;
       }
 

@@ -4,15 +4,16 @@ use mathlib.Core.List.{List}
 use Prim.Native.Nat.{ℕ}
 use Rattle.field.specs.Refusal.{numberOf}
 use Rattle.field.proofs.Unique.{number-injective}
+use Rattle.planner.proofs.Unique.{plan-into-unique}
 use Rattle.unit.specs.declared.Answer.{Answer}
 use Rattle.unit.specs.declared.Answer.the-variants.{Accepted, Refused}
 use Rattle.unit.specs.declared.Done.{Done}
-use Rattle.unit.specs.declared.Planned.{Planned}
+use Rattle.unit.specs.declared.Requested.{Requested}
 use Rattle.unit.specs.declared.Unit.{Unit as Shelf}
-use Rattle.unit.specs.Life.{Verdict, accepted, refused, Outcome}
-use Rattle.unit.specs.Request.{Answered}
+use Rattle.unit.specs.Life.{Outcome}
+use Rattle.unit.specs.Request.{Replied}
 use Rattle.unit.specs.Told.{toldAnswer, told}
-use Rattle.unit.proofs.Clause.{replied-unique}
+use Rattle.unit.specs.Unit.{newUnit, tenancyOf}
 
 answer-injective : (a b : Answer) → toldAnswer a ≡ toldAnswer b → a ≡ b
 unfolding toldAnswer
@@ -30,7 +31,21 @@ done-unique o a b p q =
     ap {B = Done} (λ x. record { answer = x; unit = a .unit }) e ∙ ap {B = Done} (λ x. record { answer = b .answer; unit = x }) u
 
 -- `request`: the answer, the unit and the buffer
-pub request-unique : (u : Shelf) (s out : List ℕ) (a b : Planned) (x y : List ℕ) → Answered u s out a x → Answered u s out b y → (a ≡ b) × (x ≡ y)
-request-unique u s out a b x y p q =
-    let r : (a .answer ≡ b .answer) × (x ≡ y) = replied-unique u _ out (a .answer) (b .answer) x y (p .reply) (q .reply) in
-    (ap {B = Planned} (λ z. record { answer = z; unit = a .unit }) (r .0) ∙ ap {B = Planned} (λ z. record { answer = b .answer; unit = z }) (p .same ∙ sym (q .same)), r .1)
+pub request-unique : {u : Shelf} {s out : List ℕ} {a b : Requested} {x y : List ℕ} → Replied u s out a x → Replied u s out b y
+    → (a ≡ b) × (x ≡ y)
+request-unique {a = a} {b = b} p q =
+    let r = plan-into-unique (p .reply) (q .reply) in (
+      ap {B = Requested} (λ z. record { answer = z; unit = a .unit }) (r .0)
+          ∙ ap {B = Requested} (λ z. record { answer = b .answer; unit = z }) (p .same ∙ sym (q .same)),
+      r .1,
+    )
+
+-- `new`, `number` and `tenancy` are the value
+pub new-unique : (n : ℕ) {a b : Shelf} → a ≡ newUnit n → b ≡ newUnit n → a ≡ b
+new-unique n p q = p ∙ sym q
+
+pub number-unique : (u : Shelf) {a b : ℕ} → a ≡ u .number → b ≡ u .number → a ≡ b
+number-unique u p q = p ∙ sym q
+
+pub tenancy-unique : (u : Shelf) {a b : ℕ} → a ≡ tenancyOf u → b ≡ tenancyOf u → a ≡ b
+tenancy-unique u p q = p ∙ sym q

@@ -3,4 +3,3 @@ pub mod Life
 pub mod Told
 pub mod Sound
 pub mod Request
-pub mod Calls

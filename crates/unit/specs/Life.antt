@@ -3,7 +3,7 @@
 --     Outcome       a verdict, and the unit afterwards
 --     rent, set, giveBack     what each call comes to
 use Prim.Native.Nat.{ℕ}
-use mathlib.Core.Bool.{Bool, _&&_}
+use mathlib.Core.Bool.{_&&_}
 use mathlib.Core.List.{List}
 use lib.Dec.{eqb, ltb}
 use Rattle.basics.specs.Choice.{pick}

@@ -1,6 +1,6 @@
 -- A unit: its number, the last tenancy accepted, whether it is rented, N and 64 table rows.
 use Prim.Native.Nat.{ℕ}
-use mathlib.Core.Bool.{Bool, true, false}
+use mathlib.Core.Bool.{true, false}
 use Rattle.basics.specs.Choice.{pick}
 use Rattle.settings.specs.declared.Table.{Table}
 use Rattle.settings.specs.Table.{noTable}
@@ -19,7 +19,7 @@ unfoldable pub tenanted : Unit → ℕ → Unit
 tenanted u t = record { number = u .number; last = t; rented = true; table = noTable }
 
 -- the whole table replaced
-unfoldable pub withTable : Unit → Table → Unit
+abbrev pub withTable : Unit → Table → Unit
 withTable u t = record { number = u .number; last = u .last; rented = u .rented; table = t }
 
 -- not rented, N = 0, all rows 0: the last tenancy number is all that remains

@@ -3,24 +3,18 @@ use field::Refusal;
 use field::Written;
 use settings::Table;
 ghost use mathlib.Core.Path.{_≡_};
-ghost use mathlib.Core.List.{map};
-ghost use lib.ListN.{length, take};
-ghost use Rattle.settings.specs.Table.{Filled};
-ghost use Prim.Native.Nat.{_≤_};
-ghost use Rattle.field.specs.Send.{Sent};
-ghost use Rattle.plan.specs.Draft.{planDraft};
-ghost use Rattle.unit.specs.Request.{startOf, Answered, Plannable, Sheeted};
-ghost use Rattle.unit.specs.Sound.{Sound};
 ghost use Rattle.unit.specs.Life.{rent, set, giveBack};
+ghost use Rattle.unit.specs.Request.{Replied};
+ghost use Rattle.unit.specs.Sound.{Sound};
 ghost use Rattle.unit.specs.Told.{told};
-ghost use Rattle.unit.specs.Unit.{newUnit, tenancyOf};
+ghost use Rattle.unit.specs.Unit.{newUnit, tenancyOf, withTable};
 
 // A unit's number, the last tenancy accepted, whether it is rented, and its table of disks.
 pub struct Unit {
-    pub number: u32,
-    pub last: u32,
-    pub rented: bool,
-    pub table: Table,
+    number: u32,
+    last: u32,
+    rented: bool,
+    table: Table,
 }
 
 pub enum Answer {
@@ -35,7 +29,7 @@ pub struct Done {
 }
 
 // What a read request answers, the length of the plan sheet written or the refusal, with the unit afterwards.
-pub struct Planned {
+pub struct Requested {
     pub answer: Written,
     pub unit: Unit,
 }
@@ -52,6 +46,12 @@ impl Unit {
             rented: false,
             table,
         }
+    }
+
+    pub fn number(self) -> u32
+        ensures { λ r. ⌜ r ≡ self .number ⌝ }
+    {
+        self.number
     }
 
     // The tenancy that a sheet must name; 0 stands for not rented.
@@ -86,6 +86,14 @@ impl Unit {
         }
     }
 
+    // The whole table replaced.
+    fn with_table(mut self, table: Table) -> Unit
+        ensures { λ r. ⌜ r ≡ withTable self table ⌝ }
+    {
+        self.table = table;
+        self
+    }
+
     // Takes a settings sheet.
     pub fn settings(mut self, sheet: &[u8]) -> Done
         ensures { λ r. ⌜ told r ≡ set self (now (sheet .entry)) ⌝ }
@@ -94,15 +102,15 @@ impl Unit {
         let said = settings::read(sheet, number, self.tenancy());
         let answer = said.answer;
         match answer {
-            settings::Answer::Accepted => {
+            field::Verdict::Accepted => {
                 let table = said.table;
-                self.table = table;
+                self = self.with_table(table);
                 Done {
                     answer: Answer::Accepted,
                     unit: self,
                 }
             }
-            settings::Answer::Refused(e) => Done {
+            field::Verdict::Refused(e) => Done {
                 answer: Answer::Refused(e),
                 unit: self,
             },
@@ -130,75 +138,14 @@ impl Unit {
     }
 
     // Answers a read request with the sheet of its plan, at the start of a lent buffer.
-    pub fn request(self, sheet: &[u8], out: &mut [u8]) -> Planned
+    pub fn request(self, sheet: &[u8], out: &mut [u8]) -> Requested
         requires { ⌜ Sound self ⌝ }
-        ensures { λ r. ⌜ Answered self (now (sheet .entry)) (now (out .entry)) r (now (out .exit)) ⌝ }
+        ensures { λ r. ⌜ Replied self (now (sheet .entry)) (now (out .entry)) r (now (out .exit)) ⌝ }
     {
         let number = self.number;
         let table = self.table;
         let tenancy = self.tenancy();
-        let said = request::read(sheet, number, tenancy, table.disks);
-        let answer = said.answer;
-        match answer {
-            request::Answer::Accepted(q) => {
-                let copies = said.copies;
-                let written = plan_into(number, tenancy, table, &copies[..q], out);
-                Planned {
-                    answer: written,
-                    unit: self,
-                }
-            }
-            request::Answer::Refused(e) => Planned {
-                answer: Written::Refused(e),
-                unit: self,
-            },
-        }
+        let answer = planner::plan_into(number, tenancy, table, sheet, out);
+        Requested { answer, unit: self }
     }
-}
-
-// The cost and the start of each disk: it starts at delay plus load.
-fn columns(table: Table, costs: &mut [u32; 64], starts: &mut [u32; 64])
-    requires { ⌜ Filled table × (length (now costs) ≡ 64) × (length (now starts) ≡ 64) ⌝ }
-    ensures { λ _. ⌜ (now (costs .exit) ≡ map (λ r. r .cost) (table .rows)) × (now (starts .exit) ≡ map startOf (table .rows)) ⌝ }
-{
-    let rows = table.rows;
-    let mut i = 0;
-    while i < 64 {
-        let row = rows[i];
-        costs[i] = row.cost;
-        starts[i] = row.delay + row.load;
-        i += 1;
-    }
-}
-
-// The sheet of what the engine found.
-fn send(
-    number: u32,
-    tenancy: u32,
-    found: engine::Answer,
-    q: usize,
-    disks: &[u8],
-    short: &[u16],
-    out: &mut [u8],
-) -> Written
-    requires { ⌜ (q ≤ length (now disks)) × (found .size ≤ length (now short)) ⌝ }
-    ensures { λ r. ⌜ Sent (planDraft number tenancy (record { time = found .time; disks = take q (now (disks .entry)); short = take (found .size) (now (short .entry)) })) (now (out .entry)) r (now (out .exit)) ⌝ }
-{
-    let m = found.size;
-    plan::write(number, tenancy, found.time, &disks[..q], &short[..m], out)
-}
-
-// The sheet of the plan of a table and the copies of a request.
-fn plan_into(number: u32, tenancy: u32, table: Table, copies: &[u64], out: &mut [u8]) -> Written
-    requires { ⌜ Plannable table (now copies) ⌝ }
-    ensures { λ r. ⌜ Sheeted number tenancy table (now (copies .entry)) (now (out .entry)) r (now (out .exit)) ⌝ }
-{
-    let mut costs = [0u32; 64];
-    let mut starts = [0u32; 64];
-    columns(table, &mut costs, &mut starts);
-    let mut disks = [0u8; 1024];
-    let mut short = [0u16; 1024];
-    let n = table.disks as usize;
-    let found = engine::plan(copies, &costs[..n], &starts[..n], &mut disks, &mut short);
-    send(number, tenancy, found, copies.len(), &disks, &short, out)
 }

@@ -16,7 +16,7 @@ unfolding stream-opened
 call-settings = refl
 
 -- 4 and a tenancy: Return 300
-call-return : asked (bytes "04 AC 02") 0 ≡ got (returns 300) 3
+pub call-return : asked (bytes "04 AC 02") 0 ≡ got (returns 300) 3
 unfolding stream-opened
 call-return = refl
 
@@ -31,6 +31,6 @@ unfolding stream-opened
 call-more = refl
 
 -- a length of 9,230
-call-length : asked (bytes "02 8E 48") 0 ≡ refused 6
+pub call-length : asked (bytes "02 8E 48") 0 ≡ refused 6
 unfolding stream-opened
 call-length = refl

@@ -11,37 +11,38 @@ use Rattle.vectors.proofs.Plan.{example as plan}
 -- ---- rp_write_settings
 
 -- a cost of 300 in four bytes: the lowest byte first
-settings-lowest-first : settingsDraftOfBytes 7 300 (bytes "2C 01 00 00") (bytes "00 00 00 00") (bytes "01 00 00 00") ≡ sheet (bytes "01 07 AC 02 01 AC 02 00 01")
+settings-lowest-first : settingsDraftOfBytes 7 300 (bytes "2C 01 00 00") (bytes "00 00 00 00") (bytes "01 00 00 00")
+    ≡ sheet (bytes "01 07 AC 02 01 AC 02 00 01")
 unfolding desk-opened
 settings-lowest-first = refl
 
 -- a list broken inside a number
-settings-broken : settingsDraftOfBytes 7 300 (bytes "04 00 00 00 03") (bytes "00 00 00 00") (bytes "01 00 00 00") ≡ none 6
+pub settings-broken : settingsDraftOfBytes 7 300 (bytes "04 00 00 00 03") (bytes "00 00 00 00") (bytes "01 00 00 00") ≡ none 6
 unfolding desk-opened
 settings-broken = refl
 
 -- ---- rp_write_request
 
 -- disk 63 is the highest bit of the eighth byte
-request-disk-63 : requestDraftOfBytes 7 300 64 (bytes "01 00 00 00 00 00 00 80") ≡ sheet (bytes "02 07 AC 02 01 02 00 3F")
+pub request-disk-63 : requestDraftOfBytes 7 300 64 (bytes "01 00 00 00 00 00 00 80") ≡ sheet (bytes "02 07 AC 02 01 02 00 3F")
 unfolding desk-opened
 request-disk-63 = refl
 
 -- a list broken inside a number
-request-broken : requestDraftOfBytes 7 300 3 (bytes "03 00 00 00") ≡ none 6
+pub request-broken : requestDraftOfBytes 7 300 3 (bytes "03 00 00 00") ≡ none 6
 unfolding desk-opened
 request-broken = refl
 
 -- ---- rp_read_plan
 
 -- Q from bit 8, R from bit 19, m from bit 50; the disks, and the short set in pairs; beyond them all as it was
-plan-example :
+pub plan-example :
     PlanRead 7 300 plan (bytes "EE EE EE EE EE") (replicate 10 0xEE) (4 * 2 ^ 8 + 9 * 2 ^ 19 + 4 * 2 ^ 50)
     (bytes "00 00 01 01 EE") (bytes "00 00 01 00 02 00 03 00 EE EE")
 unfolding desk-opened
 plan-example = record { answer = refl; blocks = refl; members = refl }
 
 -- an odd last byte is not used: seven bytes are room for three
-plan-odd-byte : PlanRead 7 300 plan (replicate 4 0xEE) (replicate 7 0xEE) 11 (replicate 4 0xEE) (replicate 7 0xEE)
+pub plan-odd-byte : PlanRead 7 300 plan (replicate 4 0xEE) (replicate 7 0xEE) 11 (replicate 4 0xEE) (replicate 7 0xEE)
 unfolding desk-opened
 plan-odd-byte = record { answer = refl; blocks = refl; members = refl }

@@ -19,18 +19,18 @@ use Rattle.vectors.proofs.Figures.{join, same-copies, copies-p5, P5}
 -- ---- the figure P5, spelled with masks and starts
 
 -- 4 is disk 2, 1 is disk 0
-abbrev copies : List ℕ
+abbrev pub copies : List ℕ
 copies = 4 ∷ 1 ∷ 1 ∷ []
 
-abbrev costs : List ℕ
+abbrev pub costs : List ℕ
 costs = 4 ∷ 3 ∷ 10 ∷ []
 
 -- a disk starts at delay plus load
-abbrev starts : List ℕ
+abbrev pub starts : List ℕ
 starts = 1 ∷ 2 ∷ 0 ∷ []
 
 -- a buffer before, the disks and the short set after
-abbrev blank : List ℕ
+abbrev pub blank : List ℕ
 blank = 99 ∷ 99 ∷ 99 ∷ []
 
 abbrev disks : List ℕ
@@ -58,7 +58,7 @@ same-set b = or-false (eqb 0 b)
 -- ---- plan
 
 -- R is 10, the disks are 2 0 0, the short set is block 0; its buffer is as it was beyond that
-plan-p5 : Planned copies costs starts blank blank (2 ∷ 0 ∷ 0 ∷ []) (0 ∷ 99 ∷ 99 ∷ []) (record { time = 10; size = 1 })
+pub plan-p5 : Planned copies costs starts blank blank (2 ∷ 0 ∷ 0 ∷ []) (0 ∷ 99 ∷ 99 ∷ []) (record { time = 10; size = 1 })
 plan-p5 =
     record {
       plan =

@@ -1,8 +1,8 @@
 -- Document 01's example from end to end: its settings and its request give its plan, the figure P6.
-use Prim.Native.Nat.{ℕ}
-use mathlib.Core.Bool.{Bool}
-use mathlib.Core.List.{[], _∷_, _++_}
-use mathlib.Core.Path.{_≡_, refl, ap, fun-ext, subst}
+use Prim.Native.Nat.{ℕ, zero, suc, _+_}
+use mathlib.Core.Bool.{Bool, true, false}
+use mathlib.Core.List.{List, [], _∷_, _++_}
+use mathlib.Core.Path.{_≡_, refl, ap₂, fun-ext, subst}
 use native.Mathlib.Omega.{arith}
 use lib.ListN.{getD, replicate}
 use Rattle.model.specs.Case.{Case, base}
@@ -10,12 +10,16 @@ use Rattle.model.specs.Figures.{asked}
 use Rattle.model.specs.Plan.{Optimal}
 use Rattle.field.specs.declared.Written.the-variants.{Length}
 use Rattle.basics.specs.Lists.{All, Rises, listed}
-use Rattle.settings.specs.Table.{table, disksOf, costs, loads, delays}
-use Rattle.unit.specs.Request.{caseOf, PlanFor, Sheeted, Answered}
+use Rattle.field.specs.Sheet.{got, refused}
+use Rattle.settings.specs.Table.{table, disksOf, costs}
+use Rattle.planner.specs.Asked.{startOf, caseOf, PlanFor}
+use Rattle.unit.specs.Request.{Replied}
 use Rattle.console.specs.Bench.{benchInput, Line}
-use Rattle.stream.specs.Call.{asked as askedCall}
-use Rattle.service.specs.Shelf.{Serves}
-use Rattle.vectors.specs.Text.{bytes, ascii}
+use Rattle.hire.specs.Calls.{planned}
+use Rattle.line.specs.Text.{ascii}
+use Rattle.service.specs.declared.Next.the-variants.{Served}
+use Rattle.service.specs.Shelf.{due, shelfOf, Comes}
+use Rattle.vectors.specs.Text.{bytes}
 use Rattle.vectors.proofs.Opened.{plan-opened, unit-opened, program-opened}
 use Rattle.vectors.proofs.Settings.{three}
 use Rattle.vectors.proofs.Request.{copies, example as request}
@@ -24,18 +28,25 @@ use Rattle.vectors.proofs.Unit.{ready}
 use Rattle.vectors.proofs.Program.{example as input}
 use Rattle.vectors.proofs.Figures.{join, same-copies, copies-p6, P6}
 
+-- a disk starts at delay plus load
+same-start : (d : ℕ) → getD (1 ∷ 0 ∷ 0 ∷ []) d 0 + getD (0 ∷ 2 ∷ 0 ∷ []) d 0 ≡ getD (1 ∷ 2 ∷ 0 ∷ []) d 0
+same-start zero = refl
+same-start (suc zero) = refl
+same-start (suc (suc zero)) = refl
+same-start (suc (suc (suc d))) = refl
+
 -- the settings and the request are the case of P6
 same-case : asked copies-p6 ≡ caseOf (table 3 three) copies
-unfolding unit-opened asked caseOf disksOf costs loads delays base join
+unfolding unit-opened asked caseOf startOf disksOf costs base join
 same-case =
-    ap
-    (λ (h : ℕ → ℕ → Bool).
-    base 3 4 (λ d. getD (4 ∷ 3 ∷ 10 ∷ []) d 0) (λ d. getD (0 ∷ 2 ∷ 0 ∷ []) d 0) (λ d. getD (1 ∷ 0 ∷ 0 ∷ []) d 0) h)
-    (fun-ext (λ b. fun-ext (same-copies copies-p6 b)))
+    ap₂ {C = Case}
+    (λ (start : ℕ → ℕ) (copy : ℕ → ℕ → Bool). record
+    { disks = 3; blocks = 4; start = start; cost = λ d. getD (4 ∷ 3 ∷ 10 ∷ []) d 0; copy = copy })
+    (fun-ext same-start) (fun-ext (λ b. fun-ext (same-copies copies-p6 b)))
 
 -- R is 9, the disks are 0 0 1 1, the short set is 0 1 2 3
-plan-example : PlanFor (table 3 three) copies plan
-unfolding unit-opened plan-opened All Rises
+plan-example : PlanFor (caseOf (table 3 three) copies) plan
+unfolding unit-opened plan-opened caseOf All Rises
 plan-example =
     record {
       range = record {
@@ -53,21 +64,31 @@ plan-example =
     }
 
 -- the unit answers document 01's request with document 01's plan sheet
-request-example : Answered ready request (replicate 16 0xEE) (record { answer = Length 15; unit = ready }) (bytes "03 07 AC 02 04 09 00 00 01 01 04 00 01 02 03 EE")
-unfolding unit-opened plan-opened Sheeted
-request-example = record { same = refl; reply = (plan, plan-example, record { answer = refl; held = refl }) }
+pub request-example : Replied ready request (replicate 16 0xEE) (record { answer = Length 15; unit = ready })
+    (bytes "03 07 AC 02 04 09 00 00 01 01 04 00 01 02 03 EE")
+unfolding unit-opened plan-opened
+request-example = record {
+  same = refl;
+  reply = record { plan = got plan 17; plans = (plan, plan-example, refl); sent = record { answer = refl; held = refl } };
+}
+
+abbrev plan-sheet : List ℕ
+plan-sheet = bytes "03 07 AC 02 04 09 00 00 01 01 04 00 01 02 03"
 
 -- the bench prints document 01's line
 bench-example : Line (benchInput input 0) (ascii "plan 7 300 4 9 | 0 0 1 1 | 0 1 2 3\n")
 unfolding program-opened
-bench-example = (plan, plan-example, refl)
+bench-example = record { plan = got plan 17; plans = (plan, plan-example, refl); says = refl }
 
 -- the shelf prints document 01's plan sheet, where fifteen bytes are lent for it
-serve-example : Serves ready (askedCall (bytes "03 0F 11" ++ request) 0) 20 (ascii "plan 0307ac020409000001010400010203\n") ready
-unfolding program-opened
-serve-example = (refl, ((plan, plan-example, refl), refl))
+serve-example : Comes (shelfOf ready) (bytes "03 0F 11" ++ request) false (due true (bytes "03 0F 11" ++ request) 0) Served 20
+    (ascii "plan 0307ac020409000001010400010203\n") (shelfOf ready)
+unfolding program-opened plan-opened
+serve-example = (refl, refl, (planned (got tt 15) plan-sheet, ready, (got plan 17, (plan, plan-example, refl), refl, refl), refl, refl))
 
 -- and 11 where fourteen are
-serve-no-room : Serves ready (askedCall (bytes "03 0E 11" ++ request) 0) 20 (ascii "refused 11\n") ready
-unfolding program-opened
-serve-no-room = (refl, ((plan, plan-example, refl), refl))
+serve-no-room : Comes (shelfOf ready) (bytes "03 0E 11" ++ request) false (due true (bytes "03 0E 11" ++ request) 0) Served 20
+    (ascii "refused 11\n") (shelfOf ready)
+unfolding program-opened plan-opened
+serve-no-room =
+    (refl, refl, (planned (refused 11) (replicate 14 0), ready, (got plan 17, (plan, plan-example, refl), refl, refl), refl, refl))

@@ -1,7 +1,8 @@
 -- Fields of a sheet: the refusal numbers, what each reader refuses, and a field put into a lent buffer.
 use mathlib.Core.Path.{_≡_, refl}
 use mathlib.Core.List.{[], _∷_, map}
-use Rattle.field.specs.declared.Refusal.the-variants.{SheetEnds, BadNumber, WrongKind, WrongUnit, WrongTenancy, OutOfRange, NoCopy, NotRising, BytesFollow, NoSettings, NoRoom, Rented, NotAbove, NotTheTenant}
+use Rattle.field.specs.declared.Refusal.the-variants.{SheetEnds, BadNumber, WrongKind, WrongUnit, WrongTenancy, OutOfRange, NoCopy}
+use Rattle.field.specs.declared.Refusal.the-variants.{NotRising, BytesFollow, NoSettings, NoRoom, Rented, NotAbove, NotTheTenant}
 use Rattle.field.specs.Field.{number, exactly, tenancy, inside, rising, end}
 use Rattle.field.specs.Put.{PutOne}
 use Rattle.field.specs.Refusal.{numberOf}
@@ -13,7 +14,8 @@ use Rattle.vectors.proofs.Opened.{field-opened}
 
 -- document 01's table of refusal numbers, in its order
 refusal-numbers :
-    map numberOf (SheetEnds ∷ BadNumber ∷ WrongKind ∷ WrongUnit ∷ WrongTenancy ∷ OutOfRange ∷ NoCopy ∷ NotRising ∷ BytesFollow ∷ NoSettings ∷ NoRoom ∷ Rented ∷ NotAbove ∷ NotTheTenant ∷ [])
+    map numberOf (SheetEnds ∷ BadNumber ∷ WrongKind ∷ WrongUnit ∷ WrongTenancy ∷ OutOfRange ∷ NoCopy ∷ NotRising ∷ BytesFollow ∷ NoSettings
+    ∷ NoRoom ∷ Rented ∷ NotAbove ∷ NotTheTenant ∷ [])
     ≡ 1 ∷ 2 ∷ 3 ∷ 4 ∷ 5 ∷ 6 ∷ 7 ∷ 8 ∷ 9 ∷ 10 ∷ 11 ∷ 12 ∷ 13 ∷ 14 ∷ []
 unfolding field-opened
 refusal-numbers = refl
@@ -57,12 +59,12 @@ tenant-0 = refl
 -- ---- ranged
 
 -- the low end of 1 to 64
-ranged-low : inside 1 64 (bytes "01") 0 ≡ got 1 1
+ranged-low : inside 1 64 6 (bytes "01") 0 ≡ got 1 1
 unfolding field-opened
 ranged-low = refl
 
 -- one above the high end
-ranged-above : inside 1 64 (bytes "41") 0 ≡ refused 6
+ranged-above : inside 1 64 6 (bytes "41") 0 ≡ refused 6
 unfolding field-opened
 ranged-above = refl
 

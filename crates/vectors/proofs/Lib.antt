@@ -12,3 +12,4 @@ mod Program
 mod Figures
 mod Example
 mod Engine
+mod RuledOut

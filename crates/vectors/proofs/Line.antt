@@ -1,8 +1,9 @@
 -- The lines that the programs print.
 use mathlib.Core.Path.{_≡_, refl}
+use mathlib.Core.List.{[]}
 use Rattle.line.specs.declared.Word.the-variants.{Refused}
 use Rattle.line.specs.Line.{spoken, planLine, sheetLine}
-use Rattle.vectors.specs.Text.{ascii}
+use Rattle.line.specs.Text.{ascii}
 use Rattle.vectors.proofs.Opened.{line-opened}
 use Rattle.vectors.proofs.Plan.{plan}
 use Rattle.vectors.proofs.Plan.{example as sheet}
@@ -20,6 +21,11 @@ refused-6 = refl
 plan-example : planLine 7 300 plan ≡ ascii "plan 7 300 4 9 | 0 0 1 1 | 0 1 2 3\n"
 unfolding line-opened
 plan-example = refl
+
+-- and the line of a plan for no blocks
+no-blocks : planLine 7 300 (record { time = 0; disks = []; short = [] }) ≡ ascii "plan 7 300 0 0 | |\n"
+unfolding line-opened
+no-blocks = refl
 
 -- ---- sheet_line
 

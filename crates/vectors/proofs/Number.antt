@@ -63,7 +63,8 @@ widths = refl
 -- ---- write
 
 -- the shortest form, lowest group first
-spelled : map encode (0 ∷ 127 ∷ 128 ∷ 300 ∷ 4294967295 ∷ []) ≡ bytes "00" ∷ bytes "7F" ∷ bytes "80 01" ∷ bytes "AC 02" ∷ bytes "FF FF FF FF 0F" ∷ []
+spelled : map encode (0 ∷ 127 ∷ 128 ∷ 300 ∷ 4294967295 ∷ [])
+    ≡ bytes "00" ∷ bytes "7F" ∷ bytes "80 01" ∷ bytes "AC 02" ∷ bytes "FF FF FF FF 0F" ∷ []
 unfolding number-opened
 spelled = refl
 

@@ -3,14 +3,14 @@ use Rattle.basics.specs.Choice.{pick}
 use Rattle.number.specs.Decode.{under, more, decode}
 use Rattle.number.specs.Encode.{encodeBy, encode, widthOf, fits, written, putFirst}
 use Rattle.field.specs.Sheet.{andThen, _>>=_, _>>_, pure, require, times}
-use Rattle.field.specs.Field.{taken, number, exactly, tenancy, inside, rising, ascending, end, whole, opening}
+use Rattle.basics.specs.Lists.{listed}
+use Rattle.field.specs.Field.{taken, number, between, ascending, kind, addressed, opening, end, whole}
 use Rattle.field.specs.Put.{spellAll, hasRoom, openingBytes}
 use Rattle.basics.specs.Buffer.{paste, over}
-use Rattle.field.specs.Refusal.{numberOf}
 use Rattle.field.specs.Send.{toldWritten, answerTo, leftBy}
-use Rattle.settings.specs.Draft.{rowsOf, headBytes, sheetBytes, equalLengths, settingsDraft}
+use Rattle.settings.specs.Draft.{rowsOf, headingBytes as settingsHeadingBytes, sheetBytes, listsFit, settingsDraft}
 use Rattle.settings.specs.Row.{row, inRange, allInRange, rowBytes}
-use Rattle.settings.specs.Sheet.{fields, settingsSheet}
+use Rattle.settings.specs.Sheet.{heading as settingsHeading, body as settingsBody, fields, settingsSheet}
 use Rattle.settings.specs.Table.{padded, table, noTable}
 use Rattle.settings.specs.Told.{tableOf}
 use Rattle.mask.specs.Has.{has}
@@ -23,8 +23,9 @@ use Rattle.plan.specs.Plan.{ifAny, timeOf, sizeOf, listsOf, planFields, planShe
 use Rattle.plan.specs.Receive.{roomFor, settle, heads, disksLeft, shortLeft}
 use Rattle.plan.specs.Told.{toldPlan}
 use Rattle.unit.specs.Life.{takes, refuses, rent, settled, set, giveBack}
-use Rattle.unit.specs.Request.{Replied}
-use Rattle.unit.specs.Unit.{newUnit, tenancyOf, tenanted, withTable, returned}
+use Rattle.planner.specs.Answered.{draftOf}
+use Rattle.planner.specs.Asked.{caseIn, Plans, asked as askedCase}
+use Rattle.unit.specs.Unit.{newUnit, tenancyOf, tenanted, returned}
 use Rattle.desk.specs.Desk.{settingsDraftOfBytes, requestDraftOfBytes, planOf, setLeft}
 use Rattle.lent.specs.Numbers.{valueOf, bytesOf, firstNumbers, numbers, broken}
 use Rattle.lent.specs.Packed.{packPlan, readerAnswer}
@@ -32,9 +33,10 @@ use Rattle.line.specs.Text.{digit, digitsBy, decimal, spaced, pair, hex}
 use Rattle.line.specs.Line.{feed, word-returned, word-refused, word-stopped, word-plan, bar, spoken, planText, planLine, sheetLine}
 use Rattle.stream.specs.Frame.{sheet, bytes as framed}
 use Rattle.stream.specs.Call.{ofTenancy, ofSettings, ofRequest, none, behind, asked}
-use Rattle.console.specs.Bench.{judge, accept, close, hire, benchInput, Replies, Asks, Line, settle as settleInput}
-use Rattle.service.specs.Shelf.{verdictLine, sentLine, stopLine, Sheets, Does, Serves}
-use Rattle.vectors.specs.Text.{bytes, ascii, digit as hexDigit}
+use Rattle.console.specs.Bench.{judge, accept, close, hire, benchInput, answerLine as benchLine, Line, settle as settleInput}
+use Rattle.hire.specs.Calls.{Comes as Came, sent, Does}
+use Rattle.service.specs.Shelf.{due, shelfOf, callOf, acceptedLine, lineOf, Serves, lastLine, waits, Comes}
+use Rattle.vectors.specs.Text.{bytes, digit as hexDigit}
 
 unfoldable pub number-opened : Type 0
 unfolding pick over under more decode encodeBy encode widthOf fits written putFirst bytes hexDigit
@@ -42,14 +44,14 @@ number-opened = Unit
 
 unfoldable pub field-opened : Type 0
 unfolding
-    number-opened andThen _>>=_ _>>_ pure require times taken number exactly tenancy inside rising ascending end whole opening
-    spellAll paste hasRoom openingBytes numberOf toldWritten answerTo leftBy
+    number-opened andThen _>>=_ _>>_ pure require times taken number between ascending kind addressed opening end whole listed
+    spellAll paste hasRoom openingBytes toldWritten answerTo leftBy
 field-opened = Unit
 
 unfoldable pub settings-opened : Type 0
 unfolding
-    field-opened rowsOf headBytes sheetBytes equalLengths settingsDraft row inRange allInRange rowBytes fields settingsSheet
-    padded table noTable tableOf
+    field-opened rowsOf settingsHeadingBytes sheetBytes listsFit settingsDraft row inRange allInRange rowBytes
+    settingsHeading settingsBody fields settingsSheet padded table noTable tableOf
 settings-opened = Unit
 
 unfoldable pub request-opened : Type 0
@@ -66,7 +68,8 @@ plan-opened = Unit
 
 unfoldable pub unit-opened : Type 0
 unfolding
-    settings-opened request-opened takes refuses rent settled set giveBack Replied newUnit tenancyOf tenanted withTable returned
+    settings-opened request-opened takes refuses rent settled set giveBack caseIn askedCase Plans draftOf newUnit tenancyOf
+    tenanted returned
 unit-opened = Unit
 
 unfoldable pub desk-opened : Type 0
@@ -78,7 +81,7 @@ desk-opened = Unit
 unfoldable pub line-opened : Type 0
 unfolding
     plan-opened digit digitsBy decimal spaced pair hex feed word-returned word-refused word-stopped
-    word-plan bar spoken planText planLine sheetLine ascii
+    word-plan bar spoken planText planLine sheetLine
 line-opened = Unit
 
 unfoldable pub stream-opened : Type 0
@@ -87,6 +90,6 @@ stream-opened = Unit
 
 unfoldable pub program-opened : Type 0
 unfolding
-    unit-opened line-opened stream-opened judge accept close hire settleInput benchInput Replies Asks Line
-    verdictLine sentLine stopLine Sheets Does Serves
+    unit-opened line-opened stream-opened judge accept close hire settleInput benchInput benchLine Line
+    Came sent Does due shelfOf callOf acceptedLine lineOf Serves lastLine waits Comes
 program-opened = Unit

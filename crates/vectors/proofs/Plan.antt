@@ -25,12 +25,12 @@ plan = record { time = 9; disks = 0 ∷ 0 ∷ 1 ∷ 1 ∷ []; short = 0 ∷ 1 �
 -- ---- read
 
 -- block 2 of two blocks
-block-at-q : planSheet 7 300 (bytes "03 07 AC 02 02 09 00 01 01 02") 0 ≡ refused 6
+pub block-at-q : planSheet 7 300 (bytes "03 07 AC 02 02 09 00 01 01 02") 0 ≡ refused 6
 unfolding plan-opened
 block-at-q = refl
 
 -- Q, R and m; the disks and the short set stand first, the entries beyond them are as they were
-lists-filled :
+pub lists-filled :
     Received (planSheet 7 300 example 0) 15 (replicate 6 99) (replicate 5 99)
     (Accepted (record { blocks = 4; time = 9; size = 4 }))
     (0 ∷ 0 ∷ 1 ∷ 1 ∷ 99 ∷ 99 ∷ []) (0 ∷ 1 ∷ 2 ∷ 3 ∷ 99 ∷ [])
@@ -40,12 +40,13 @@ lists-filled = record { answer = refl; blocks = refl; members = refl }
 -- ---- write
 
 -- m is the size of the short set, not Q
-draft-smaller-set : planDraft 7 300 (record { time = 10; disks = 2 ∷ 0 ∷ 0 ∷ []; short = 0 ∷ [] }) ≡ sheet (bytes "03 07 AC 02 03 0A 02 00 00 01 00")
+pub draft-smaller-set : planDraft 7 300 (record { time = 10; disks = 2 ∷ 0 ∷ 0 ∷ []; short = 0 ∷ [] })
+    ≡ sheet (bytes "03 07 AC 02 03 0A 02 00 00 01 00")
 unfolding plan-opened
 draft-smaller-set = refl
 
 -- the very length is room enough
-write-exact : Sent (planDraft 7 300 plan) (replicate 15 0xEE) (Length 15) example
+pub write-exact : Sent (planDraft 7 300 plan) (replicate 15 0xEE) (Length 15) example
 unfolding plan-opened
 write-exact = record { answer = refl; held = refl }
 

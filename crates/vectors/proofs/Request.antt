@@ -23,19 +23,19 @@ copies = 3 ∷ 3 ∷ 3 ∷ 6 ∷ []
 -- ---- read
 
 -- k = 0
-no-copies : requestSheet 7 300 3 (bytes "02 07 AC 02 01 00") 0 ≡ refused 7
+pub no-copies : requestSheet 7 300 3 (bytes "02 07 AC 02 01 00") 0 ≡ refused 7
 unfolding request-opened
 no-copies = refl
 
 -- disk 3 of three disks
-disk-at-n : requestSheet 7 300 3 (bytes "02 07 AC 02 01 01 03") 0 ≡ refused 6
+pub disk-at-n : requestSheet 7 300 3 (bytes "02 07 AC 02 01 01 03") 0 ≡ refused 6
 unfolding request-opened
 disk-at-n = refl
 
 -- ---- write
 
 -- a copy number with no bits
-draft-no-copies : requestDraft 7 300 3 (3 ∷ 0 ∷ []) ≡ none 7
+pub draft-no-copies : requestDraft 7 300 3 (3 ∷ 0 ∷ []) ≡ none 7
 unfolding request-opened
 draft-no-copies = refl
 

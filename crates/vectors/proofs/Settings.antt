@@ -49,18 +49,18 @@ unfolding settings-opened
 rows-beyond = refl
 
 -- the tenant before
-other-tenancy : settingsSheet 7 301 example 0 ≡ refused 5
+pub other-tenancy : settingsSheet 7 301 example 0 ≡ refused 5
 unfolding settings-opened
 other-tenancy = refl
 
 -- ---- write
 
 -- the bytes of document 01's example
-draft-example : settingsDraft 7 300 (4 ∷ 3 ∷ 10 ∷ []) (0 ∷ 2 ∷ 0 ∷ []) (1 ∷ 0 ∷ 0 ∷ []) ≡ sheet example
+pub draft-example : settingsDraft 7 300 (4 ∷ 3 ∷ 10 ∷ []) (0 ∷ 2 ∷ 0 ∷ []) (1 ∷ 0 ∷ 0 ∷ []) ≡ sheet example
 unfolding settings-opened
 draft-example = refl
 
 -- one byte less than the sheet has is 11, and the buffer is as it was
-write-no-room : Sent (settingsDraft 7 300 (4 ∷ []) (0 ∷ []) (1 ∷ [])) (replicate 7 0xEE) (Refused NoRoom) (replicate 7 0xEE)
+pub write-no-room : Sent (settingsDraft 7 300 (4 ∷ []) (0 ∷ []) (1 ∷ [])) (replicate 7 0xEE) (Refused NoRoom) (replicate 7 0xEE)
 unfolding settings-opened
 write-no-room = record { answer = refl; held = refl }

@@ -39,12 +39,12 @@ tenancies = refl
 -- ---- rent
 
 -- Rent while rented, of a tenancy that is not above the last: 12 before 13
-rent-rented : rent ready 299 ≡ record { verdict = refused 12; unit = ready }
+pub rent-rented : rent ready 299 ≡ record { verdict = refused 12; unit = ready }
 unfolding unit-opened
 rent-rented = refl
 
 -- the same tenancy again
-rent-again : rent back 300 ≡ record { verdict = refused 13; unit = back }
+pub rent-again : rent back 300 ≡ record { verdict = refused 13; unit = back }
 unfolding unit-opened
 rent-again = refl
 
@@ -56,18 +56,18 @@ rent-next = refl
 -- ---- settings
 
 -- not rented
-set-free : set back settings ≡ record { verdict = refused 5; unit = back }
+pub set-free : set back settings ≡ record { verdict = refused 5; unit = back }
 unfolding unit-opened
 set-free = refl
 
 -- ---- give_back
 
 -- not rented, N = 0, all rows 0: the last tenancy number remains
-return-300 : giveBack ready 300 ≡ record { verdict = accepted; unit = back }
+pub return-300 : giveBack ready 300 ≡ record { verdict = accepted; unit = back }
 unfolding unit-opened
 return-300 = refl
 
 -- of another tenancy
-return-other : giveBack ready 299 ≡ record { verdict = refused 14; unit = ready }
+pub return-other : giveBack ready 299 ≡ record { verdict = refused 14; unit = ready }
 unfolding unit-opened
 return-other = refl

@@ -1,6 +1,5 @@
--- Bytes and lines as document 01 prints them.
+-- Bytes as document 01 prints them.
 --     bytes     "07 AC 02": two digits for each byte, parted by single spaces
---     ascii     "plan 7": a byte for each character
 use Prim.Native.Nat.{ℕ, _+_, _-_, _*_}
 use Prim.Native.Char.{Char, code}
 use Prim.Native.String.{String, [] as none, _∷_ as _then_}
@@ -17,7 +16,3 @@ bytes none = []
 bytes (a then none) = []
 bytes (a then (b then none)) = (16 * digit a + digit b) ∷ []
 bytes (a then (b then (space then rest))) = (16 * digit a + digit b) ∷ bytes rest
-
-unfoldable pub ascii : String → List ℕ
-ascii none = []
-ascii (c then rest) = code c ∷ ascii rest

@@ -3,30 +3,42 @@ use borrow.Author.Needs.{needs}
 use native.Mathlib.Omega.{arith}
 use lib.Seq.{length-take-le}
 use mathlib.Core.Path.{sym}
-use Rattle.unit.proofs.Within.{answered-within}
+use Rattle.unit.proofs.Replies.{replied-within}
 use Rattle.console.proofs.Benching.{asks-shown, asks-refused}
 use Rattle.console.proofs.ask.Statement.{statement}
 use Rattle.console.proofs.ask.Tie as tie
 
 request-requires : tie.Need-request-requires
-request-requires c κs = c .before .before .before .pre .sound
+request-requires c κs = c .before .before .before .before .pre .sound
 
 array-share-prefix-sheet : tie.Need-array-share-prefix-sheet
-array-share-prefix-sheet c = omega (arith, answered-within _ _ _ _ _ (c .before .before .before .before .request .ensures) _ (c .before .answer .given .1))
+array-share-prefix-sheet c =
+    omega (arith, replied-within (c .before .before .before .before .request .ensures) (c .before .answer .given .1))
 
 slice-aggregate-show : tie.Need-slice-aggregate-show
-slice-aggregate-show c = sym (length-take-le _ _ (omega (arith, answered-within _ _ _ _ _ (c .before .before .before .before .before .request .ensures) _ (c .before .before .answer .given .1))))
+slice-aggregate-show c =
+    let match = c .before .before in
+    sym (length-take-le _ _ (omega (arith, replied-within (match .before .before .before .request .ensures) (match .answer .given .1))))
 
 returns : tie.Need-returns
-returns c = asks-shown _ _ _ _ _ (c .before .before .before .before .before .before .before .request .ensures) _ _ (c .before .before .before .before .answer .given .1) (c .before .before .before .before .before .before .before .before .before .before .before .pre .tenancy) (c .before .before .before .before .before .before .before .before .before .tenancy .ensures) (c .show .ensures)
+returns c =
+    let match = c .before .before .before .before in
+    let asked = match .before .before .before in
+    asks-shown (asked .request .ensures) (match .answer .given .1)
+    (asked .before .before .before .before .before .pre .tenancy) (asked .before .before .before .number .ensures)
+    (asked .before .before .tenancy .ensures)
+    (c .show .ensures)
 
 returns-2 : tie.Need-returns-2
-returns-2 c = asks-refused _ _ _ _ _ (c .before .before .before .before .before .before .request .ensures) _ (c .before .before .before .answer2 .given .1) (omega arith) (c .refuse .ensures)
+returns-2 c =
+    let match = c .before .before .before in
+    asks-refused (match .before .before .before .request .ensures) (match .answer2 .given .1) (omega arith) (c .refuse .ensures)
 
 pub ask-spec : {M : Type 1} → statement M
 ask-spec =
     tie.close
     (tie.spec
+    (λ c κs. search needs)
     (λ c κs. search needs)
     (λ c. search needs)
     request-requires

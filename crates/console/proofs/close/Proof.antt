@@ -20,14 +20,21 @@ part-ask-end c = spans-part (c .before .before .before .before .sheet .ensures) 
 
 returns : tie.Need-returns
 unfolding part
-returns c = close-asks _ _ _ _ _ (spans-part (c .before .before .before .before .before .before .before .sheet .ensures) (c .before .before .before .before .before .from .given .1) .0) (c .before .before .before .if1 .taken) (c .ask .ensures)
+returns c = close-asks _ _ _ _ _
+    (spans-part (c .before .before .before .before .before .before .before .sheet .ensures)
+    (c .before .before .before .before .before .from .given .1) .0) (c .before .before .before .if1 .taken) (c .ask .ensures)
 
 returns-2 : tie.Need-returns-2
-unfolding numberOf
-returns-2 c = tells-refused BytesFollow (close-extra _ _ _ _ _ (spans-part (c .before .before .before .before .before .before .sheet .ensures) (c .before .before .before .before .from .given .1) .0) (c .before .before .if1 .left)) (c .refuse .ensures)
+returns-2 c = tells-refused BytesFollow
+    (close-extra _ _ _ _ _
+    (spans-part (c .before .before .before .before .before .before .sheet .ensures) (c .before .before .before .before .from .given .1) .0)
+    (c .before .before .if1 .left)) (c .refuse .ensures)
 
 returns-3 : tie.Need-returns-3
-returns-3 c = tells-refused _ (close-stops _ _ _ _ (spans-refused _ (c .before .before .before .before .before .sheet .ensures) (c .before .before .before .e .given .1))) (c .refuse2 .ensures)
+returns-3 c = tells-refused (c .before .before .before .e .given .0 .0)
+    (close-stops _ _ _ _
+    (spans-refused _ (c .before .before .before .before .before .sheet .ensures) (c .before .before .before .e .given .1)))
+    (c .refuse2 .ensures)
 
 pub close-spec : {M : Type 1} → statement M
 close-spec =

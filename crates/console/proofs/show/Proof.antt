@@ -10,22 +10,42 @@ use Rattle.console.proofs.show.Statement.{statement}
 use Rattle.console.proofs.show.Tie as tie
 
 array-share-prefix-disks : tie.Need-array-share-prefix-disks
-array-share-prefix-disks c = back-disks _ _ _ _ _ _ _ _ (received-as (c .before .before .before .before .before .read .ensures) (c .before .h .given .1))
+array-share-prefix-disks c =
+    back-disks _ _ _ _ _ _ _ _ (received-as (c .before .before .before .before .before .read .ensures) (c .before .h .given .1))
 
 slice-aggregate-plan-line : tie.Need-slice-aggregate-plan-line
-slice-aggregate-plan-line c = sym (length-take-le _ _ (back-disks _ _ _ _ _ _ _ _ (received-as (c .before .before .before .before .before .before .read .ensures) (c .before .before .h .given .1))))
+slice-aggregate-plan-line c =
+    sym (length-take-le _ _
+    (back-disks _ _ _ _ _ _ _ _
+    (received-as (c .before .before .before .before .before .before .read .ensures) (c .before .before .h .given .1))))
 
 array-share-prefix-short : tie.Need-array-share-prefix-short
-array-share-prefix-short c = back-short _ _ _ _ _ _ _ _ (received-as (c .before .before .before .before .before .before .read .ensures) (c .before .before .h .given .1))
+array-share-prefix-short c =
+    back-short _ _ _ _ _ _ _ _
+    (received-as (c .before .before .before .before .before .before .read .ensures) (c .before .before .h .given .1))
 
 slice-aggregate-plan-line-2 : tie.Need-slice-aggregate-plan-line-2
-slice-aggregate-plan-line-2 c = sym (length-take-le _ _ (back-short _ _ _ _ _ _ _ _ (received-as (c .before .before .before .before .before .before .before .read .ensures) (c .before .before .before .h .given .1))))
+slice-aggregate-plan-line-2 c =
+    sym (length-take-le _ _
+    (back-short _ _ _ _ _ _ _ _
+    (received-as (c .before .before .before .before .before .before .before .read .ensures) (c .before .before .before .h .given .1))))
 
 returns : tie.Need-returns
-returns c = λ p r l q. printed-same (ap (planLine _ _) (back-plan _ _ _ _ _ _ _ _ (received-as (c .before .before .before .before .before .before .before .before .before .read .ensures) (c .before .before .before .before .before .h .given .1)) (c .before .before .before .before .before .before .before .before .before .before .before .before .before .fits .unit .fits) (c .before .before .before .before .before .before .before .before .before .before .before .before .before .fits .tenancy .fits) p r l q)) (c .plan-line .ensures)
+returns c = λ p r l q. printed-same
+    (ap (planLine _ _) (back-plan _ _ _ _ _ _ _ _
+    (received-as (c .before .before .before .before .before .before .before .before .before .read .ensures)
+    (c .before .before .before .before .before .h .given .1))
+    (c .before .before .before .before .before .before .before .before .before .before .before .before .before .fits .unit .fits)
+    (c .before .before .before .before .before .before .before .before .before .before .before .before .before .fits .tenancy .fits) p r l
+    q)) (c .plan-line .ensures)
 
 returns-2 : tie.Need-returns-2
-returns-2 c = λ p r l q. absurd (back-never _ _ _ _ _ _ _ _ (received-as (c .before .before .before .before .before .before .before .read .ensures) (c .before .before .before .e .given .1)) (c .before .before .before .before .before .before .before .before .before .before .before .fits .unit .fits) (c .before .before .before .before .before .before .before .before .before .before .before .fits .tenancy .fits) (omega arith) (omega arith) p r l q)
+returns-2 c = λ p r l q. absurd
+    (back-never _ _ _ _ _ _ _ _
+    (received-as (c .before .before .before .before .before .before .before .read .ensures) (c .before .before .before .e .given .1))
+    (c .before .before .before .before .before .before .before .before .before .before .before .fits .unit .fits)
+    (c .before .before .before .before .before .before .before .before .before .before .before .fits .tenancy .fits)
+    (omega arith) (omega arith) p r l q)
 
 pub show-spec : {M : Type 1} → statement M
 show-spec =

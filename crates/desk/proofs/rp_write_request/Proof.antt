@@ -1,4 +1,4 @@
--- `rp_write_request`: a list that is broken or too long makes the draft 6; else the draft is the numbers' own, and its length fits the answer.
+-- `rp_write_request`: a list that is broken or too long makes the draft 6; else the draft is the numbers' own, and its length fits.
 use borrow.Author.Needs.{needs}
 use Rattle.desk.proofs.Writing.{exported-refused, exported-sent, short-sent, copies-unusable, request-usable, request-short}
 use Rattle.lent.proofs.Tests.{is-usable}

@@ -1,4 +1,4 @@
--- `rp_write_settings`: a list that is broken or too long makes the draft 6; else the draft is the numbers' own, and its length fits the answer.
+-- `rp_write_settings`: a list that is broken or too long makes the draft 6; else the draft is the numbers' own, and its length fits.
 use borrow.Author.Needs.{needs}
 use Rattle.desk.proofs.Writing.{exported-refused, exported-sent, short-sent, costs-unusable, loads-unusable, delays-unusable}
 use Rattle.desk.proofs.Writing.{settings-usable, settings-short}

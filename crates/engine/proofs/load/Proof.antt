@@ -16,35 +16,17 @@ abbrev μ-loop : tie.MeasureT-loop
 loop-holds : tie.Need-loop-holds Inv-loop μ-loop
 loop-holds c = (omega arith, copied-start (c .args .copies .now) (c .args .masks .now))
 
-mul-masks : tie.Need-mul-masks Inv-loop μ-loop
-mul-masks c = search needs
-
-shared-slice-read-masks : tie.Need-shared-slice-read-masks Inv-loop μ-loop
-shared-slice-read-masks c = search needs
-
-mul-masks-2 : tie.Need-mul-masks-2 Inv-loop μ-loop
-mul-masks-2 c = search needs
-
-element-write-masks : tie.Need-element-write-masks Inv-loop μ-loop
-element-write-masks c = search needs
-
-add-b : tie.Need-add-b Inv-loop μ-loop
-add-b c = search needs
-
-loop-less : tie.Need-loop-less Inv-loop μ-loop
-loop-less c = search needs
-
 loop-again : tie.Need-loop-again Inv-loop μ-loop
 loop-again c =
     let s = c .before .before .before in
     let l = c .before .before .loop in
-    (omega arith, copied-more (s .args .copies .now) (s .args .masks .now) (l .b) (l .masks) (omega (arith, l .inv .1 .long, s .pre .0, s .pre .1)) (l .inv .1))
+    (omega arith, copied-more (l .inv .1) (omega (arith, l .inv .1 .long, s .pre .0, s .pre .1)))
 
 returns : tie.Need-returns Inv-loop μ-loop
 returns c =
     let s = c .before .before in
     let l = c .before .loop in
-    copied-loaded (s .args .copies .now) (s .args .masks .now) (l .b) (l .masks) (omega arith) (s .pre .1) (s .pre .2) (l .inv .1)
+    copied-loaded (l .inv .1) (omega arith) (s .pre .1) (s .pre .2)
 
 pub load-spec : {M : Type 1} → statement M
 load-spec =
@@ -53,11 +35,11 @@ load-spec =
     Inv-loop
     μ-loop
     loop-holds
-    mul-masks
-    shared-slice-read-masks
-    mul-masks-2
-    element-write-masks
-    add-b
-    loop-less
+    (λ c. search needs)
+    (λ c. search needs)
+    (λ c. search needs)
+    (λ c. search needs)
+    (λ c. search needs)
+    (λ c. search needs)
     loop-again
     returns)

@@ -7,31 +7,22 @@ use Rattle.engine.proofs.store.Statement.{statement}
 use Rattle.engine.proofs.store.Tie as tie
 
 abbrev Inv-loop : tie.InvT-loop
-Inv-loop q at disks₀ b₀ disks b = (b ≤ q) × Copied b at disks₀ disks
+Inv-loop q seats disks₀ b₀ disks b = (b ≤ q) × Copied b seats disks₀ disks
 
 abbrev μ-loop : tie.MeasureT-loop
-μ-loop q at disks₀ b₀ disks b = q - b
+μ-loop q seats disks₀ b₀ disks b = q - b
 
 loop-holds : tie.Need-loop-holds Inv-loop μ-loop
-loop-holds c = (omega arith, copied-start (c .args .at .now) (c .args .disks .now))
-
-element-copy-out-disks : tie.Need-element-copy-out-disks Inv-loop μ-loop
-element-copy-out-disks c = search needs
+loop-holds c = (omega arith, copied-start (c .args .seats .now) (c .args .disks .now))
 
 slice-write-disks : tie.Need-slice-write-disks Inv-loop μ-loop
 slice-write-disks c = omega (arith, c .before .before .loop .inv .1 .long, c .before .before .before .pre .1)
-
-add-b : tie.Need-add-b Inv-loop μ-loop
-add-b c = search needs
-
-loop-less : tie.Need-loop-less Inv-loop μ-loop
-loop-less c = search needs
 
 loop-again : tie.Need-loop-again Inv-loop μ-loop
 loop-again c =
     let s = c .before .before .before in
     let l = c .before .before .loop in
-    (omega arith, copied-more (s .args .at .now) (s .args .disks .now) (l .b) (l .disks) (omega (arith, l .inv .1 .long, s .pre .1)) (l .inv .1))
+    (omega arith, copied-more (l .inv .1) (omega (arith, l .inv .1 .long, s .pre .1)))
 
 same-length : tie.Need-same-length Inv-loop μ-loop
 same-length c = c .before .loop .inv .1 .long
@@ -40,7 +31,7 @@ returns : tie.Need-returns Inv-loop μ-loop
 returns c =
     let s = c .before .before in
     let l = c .before .loop in
-    copied-stored (s .args .at .now) (s .args .disks .now) (s .args .q) (l .b) (l .disks) (omega arith) (l .inv .1)
+    copied-stored (l .inv .1) (omega arith)
 
 pub store-spec : {M : Type 1} → statement M
 store-spec =
@@ -49,10 +40,10 @@ store-spec =
     Inv-loop
     μ-loop
     loop-holds
-    element-copy-out-disks
+    (λ c. search needs)
     slice-write-disks
-    add-b
-    loop-less
+    (λ c. search needs)
+    (λ c. search needs)
     loop-again
     same-length
     returns)

@@ -5,7 +5,9 @@ use Rattle.field.proofs.put_opening.Statement.{statement}
 use Rattle.field.proofs.put_opening.Tie as tie
 
 returns : tie.Need-returns
-returns c = opening-put _ _ _ (c .before .before .before .before .before .before .before .before .before .before .put .ensures) (c .before .before .before .before .before .before .put2 .ensures) (c .before .before .put3 .ensures) (c .before .before .before .before .before .before .before .before .before .before .before .before .before .pre)
+returns c = opening-put _ _ _ (c .before .before .before .before .before .before .before .before .before .before .put .ensures)
+    (c .before .before .before .before .before .before .put2 .ensures) (c .before .before .put3 .ensures)
+    (c .before .before .before .before .before .before .before .before .before .before .before .before .before .pre)
 
 pub put-opening-spec : {M : Type 1} → statement M
 put-opening-spec =

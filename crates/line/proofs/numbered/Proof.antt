@@ -7,7 +7,8 @@ use Rattle.line.proofs.numbered.Tie as tie
 
 returns : tie.Need-returns
 unfolding feed
-returns c = adds-join (c .before .before .before .before .before .before .before .before .before .before .put-text .ensures) (adds-join (c .before .before .before .before .before .before .put-spaced .ensures) (c .before .before .put-byte .ensures))
+returns c = adds-join (c .before .before .before .before .before .before .before .before .before .before .put-text .ensures)
+    (adds-join (c .before .before .before .before .before .before .put-spaced .ensures) (c .before .before .put-byte .ensures))
 
 pub numbered-spec : {M : Type 1} → statement M
 numbered-spec =

@@ -12,7 +12,8 @@ returns-2 : tie.Need-returns-2
 returns-2 c = many-blocks _ _ _ _ (c .if2 .taken)
 
 returns-3 : tie.Need-returns-3
-returns-3 c = plan-printed _ _ _ _ (c .before .before .before .before .before .if1 .left) (c .before .before .before .before .if2 .left) (omega arith) (c .before .before .put-head .ensures) (c .put-lists .ensures)
+returns-3 c = plan-printed _ _ _ _ (c .before .before .before .before .before .if1 .left) (c .before .before .before .before .if2 .left)
+    (omega arith) (c .before .before .put-head .ensures) (c .put-lists .ensures)
 
 pub plan-line-spec : {M : Type 1} → statement M
 plan-line-spec =

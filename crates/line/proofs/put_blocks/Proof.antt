@@ -21,29 +21,17 @@ loop-holds : tie.Need-loop-holds Inv-loop μ-loop
 unfolding spellAll
 loop-holds c = (omega arith, adds-none _ _, refl)
 
-mul-put-spaced : tie.Need-mul-put-spaced Inv-loop μ-loop
-mul-put-spaced c = search needs
-
-shared-slice-read-put-spaced : tie.Need-shared-slice-read-put-spaced Inv-loop μ-loop
-shared-slice-read-put-spaced c = search needs
-
 cast-put-spaced : tie.Need-cast-put-spaced Inv-loop μ-loop
 cast-put-spaced c = omega (arith, c .shared-slice-known2 .given (c .before .before .loop .i))
 
-put-spaced-requires : tie.Need-put-spaced-requires Inv-loop μ-loop
-put-spaced-requires c κs = search needs
-
-add-i : tie.Need-add-i Inv-loop μ-loop
-add-i c = search needs
-
-loop-less : tie.Need-loop-less Inv-loop μ-loop
-loop-less c = search needs
-
 loop-again : tie.Need-loop-again Inv-loop μ-loop
-loop-again c = (omega arith, adds-next _ (c .before .before .before .before .before .before .before .before .before .args .xs .now) (c .before .before .before .before .before .before .loop .i) (omega arith) (c .before .before .before .before .before .before .loop .inv .1) (c .before .before .put-spaced .ensures), search needs)
-
-same-length : tie.Need-same-length Inv-loop μ-loop
-same-length c = search needs
+loop-again c = (
+  omega arith,
+  adds-next _ (c .before .before .before .before .before .before .before .before .before .args .xs .now)
+      (c .before .before .before .before .before .before .loop .i) (omega arith)
+      (c .before .before .before .before .before .before .loop .inv .1) (c .before .before .put-spaced .ensures),
+  search needs,
+)
 
 returns : tie.Need-returns Inv-loop μ-loop
 returns c = adds-whole _ (c .before .before .before .before .args .xs .now) (c .before .loop .i) (omega arith) (c .before .loop .inv .1)
@@ -55,12 +43,12 @@ put-blocks-spec =
     Inv-loop
     μ-loop
     loop-holds
-    mul-put-spaced
-    shared-slice-read-put-spaced
+    (λ c. search needs)
+    (λ c. search needs)
     cast-put-spaced
-    put-spaced-requires
-    add-i
-    loop-less
+    (λ c κs. search needs)
+    (λ c. search needs)
+    (λ c. search needs)
     loop-again
-    same-length
+    (λ c. search needs)
     returns)

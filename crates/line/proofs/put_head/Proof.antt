@@ -8,7 +8,14 @@ use Rattle.line.proofs.put_head.Tie as tie
 
 returns : tie.Need-returns
 unfolding spellAll word-plan
-returns c = adds-join (c .before .before .before .before .before .before .before .before .before .before .before .before .before .before .before .before .before .before .put-text .ensures) (adds-join (c .before .before .before .before .before .before .before .before .before .before .before .before .before .before .put-spaced .ensures) (adds-join (c .before .before .before .before .before .before .before .before .before .before .put-spaced2 .ensures) (adds-join (c .before .before .before .before .before .before .put-spaced3 .ensures) (adds-join (c .before .before .put-spaced4 .ensures) (adds-none _ _)))))
+returns c = adds-join
+    (c .before .before .before .before .before .before .before .before .before .before .before .before .before .before .before .before
+    .before .before .put-text .ensures)
+    (adds-join (c .before .before .before .before .before .before .before .before .before .before .before .before .before .before
+    .put-spaced .ensures)
+    (adds-join (c .before .before .before .before .before .before .before .before .before .before .put-spaced2 .ensures)
+    (adds-join (c .before .before .before .before .before .before .put-spaced3 .ensures)
+    (adds-join (c .before .before .put-spaced4 .ensures) (adds-none _ _)))))
 
 pub put-head-spec : {M : Type 1} → statement M
 put-head-spec =

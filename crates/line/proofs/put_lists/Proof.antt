@@ -7,7 +7,13 @@ use Rattle.line.proofs.put_lists.Tie as tie
 
 returns : tie.Need-returns
 unfolding bar feed
-returns c = adds-join (c .before .before .before .before .before .before .before .before .before .before .before .before .before .before .before .before .before .before .before .put-text .ensures) (adds-join (c .before .before .before .before .before .before .before .before .before .before .before .before .before .before .before .put-disks .ensures) (adds-join (c .before .before .before .before .before .before .before .before .before .before .put-text2 .ensures) (adds-join (c .before .before .before .before .before .before .put-blocks .ensures) (c .before .before .put-byte .ensures))))
+returns c = adds-join
+    (c .before .before .before .before .before .before .before .before .before .before .before .before .before .before .before .before
+    .before .before .before .put-text .ensures)
+    (adds-join (c .before .before .before .before .before .before .before .before .before .before .before .before .before .before .before
+    .put-disks .ensures)
+    (adds-join (c .before .before .before .before .before .before .before .before .before .before .put-text2 .ensures)
+    (adds-join (c .before .before .before .before .before .before .put-blocks .ensures) (c .before .before .put-byte .ensures))))
 
 pub put-lists-spec : {M : Type 1} → statement M
 put-lists-spec =

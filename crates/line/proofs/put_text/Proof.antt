@@ -12,7 +12,8 @@ use Rattle.line.proofs.put_text.Statement.{statement}
 use Rattle.line.proofs.put_text.Tie as tie
 
 abbrev Inv-loop : tie.InvT-loop
-Inv-loop text out₀ at p₀ i₀ out p i = (i ≤ length text) × Adds (spellAll (λ b. b ∷ []) (take i text)) out₀ at out p × (length out ≡ length out₀)
+Inv-loop text out₀ at p₀ i₀ out p i = (i ≤ length text) × Adds (spellAll (λ b. b ∷ []) (take i text)) out₀ at out p
+    × (length out ≡ length out₀)
 
 abbrev μ-loop : tie.MeasureT-loop
 μ-loop text out₀ at p₀ i₀ out p i = length text - i
@@ -21,26 +22,18 @@ loop-holds : tie.Need-loop-holds Inv-loop μ-loop
 unfolding spellAll
 loop-holds c = (omega arith, adds-none _ _, refl)
 
-shared-slice-read-put-byte : tie.Need-shared-slice-read-put-byte Inv-loop μ-loop
-shared-slice-read-put-byte c = search needs
-
-put-byte-requires : tie.Need-put-byte-requires Inv-loop μ-loop
-put-byte-requires c κs = search needs
-
-add-i : tie.Need-add-i Inv-loop μ-loop
-add-i c = search needs
-
-loop-less : tie.Need-loop-less Inv-loop μ-loop
-loop-less c = search needs
-
 loop-again : tie.Need-loop-again Inv-loop μ-loop
-loop-again c = (omega arith, adds-next _ (c .before .before .before .before .before .before .before .before .before .args .text .now) (c .before .before .before .before .before .before .loop .i) (omega arith) (c .before .before .before .before .before .before .loop .inv .1) (c .before .before .put-byte .ensures), search needs)
-
-same-length : tie.Need-same-length Inv-loop μ-loop
-same-length c = search needs
+loop-again c = (
+  omega arith,
+  adds-next _ (c .before .before .before .before .before .before .before .before .before .args .text .now)
+      (c .before .before .before .before .before .before .loop .i) (omega arith)
+      (c .before .before .before .before .before .before .loop .inv .1) (c .before .before .put-byte .ensures),
+  search needs,
+)
 
 returns : tie.Need-returns Inv-loop μ-loop
-returns c = adds-same (spell-bytes _) (adds-whole _ (c .before .before .before .before .args .text .now) (c .before .loop .i) (omega arith) (c .before .loop .inv .1))
+returns c = adds-same (spell-bytes _)
+    (adds-whole _ (c .before .before .before .before .args .text .now) (c .before .loop .i) (omega arith) (c .before .loop .inv .1))
 
 pub put-text-spec : {M : Type 1} → statement M
 put-text-spec =
@@ -49,10 +42,10 @@ put-text-spec =
     Inv-loop
     μ-loop
     loop-holds
-    shared-slice-read-put-byte
-    put-byte-requires
-    add-i
-    loop-less
+    (λ c. search needs)
+    (λ c κs. search needs)
+    (λ c. search needs)
+    (λ c. search needs)
     loop-again
-    same-length
+    (λ c. search needs)
     returns)

@@ -12,23 +12,28 @@ enum-told c = search needs
 
 returns : tie.Need-returns
 unfolding spoken word-rented
-returns c = said-word word-rented (ap spoken (c .before .before .before .enum-told .given .1)) (omega arith) (omega arith) (c .plain .ensures)
+returns c = said-word word-rented (ap spoken (c .before .before .before .enum-told .given .1)) (omega arith)
+    (omega arith) (c .plain .ensures)
 
 returns-2 : tie.Need-returns-2
 unfolding spoken word-set
-returns-2 c = said-word word-set (ap spoken (c .before .before .before .enum-told2 .given .1)) (omega arith) (omega arith) (c .plain2 .ensures)
+returns-2 c = said-word word-set (ap spoken (c .before .before .before .enum-told2 .given .1)) (omega arith)
+    (omega arith) (c .plain2 .ensures)
 
 returns-3 : tie.Need-returns-3
 unfolding spoken word-returned
-returns-3 c = said-word word-returned (ap spoken (c .before .before .before .enum-told3 .given .1)) (omega arith) (omega arith) (c .plain3 .ensures)
+returns-3 c = said-word word-returned (ap spoken (c .before .before .before .enum-told3 .given .1)) (omega arith)
+    (omega arith) (c .plain3 .ensures)
 
 returns-4 : tie.Need-returns-4
 unfolding spoken word-refused
-returns-4 c = said-number word-refused _ (ap spoken (c .before .before .before .before .w .given .1)) (omega arith) (omega arith) (c .numbered .ensures)
+returns-4 c = said-number word-refused _ (ap spoken (c .before .before .before .before .w .given .1)) (omega arith)
+    (omega arith) (c .numbered .ensures)
 
 returns-5 : tie.Need-returns-5
 unfolding spoken word-stopped
-returns-5 c = said-number word-stopped _ (ap spoken (c .before .before .before .before .w2 .given .1)) (omega arith) (omega arith) (c .numbered2 .ensures)
+returns-5 c = said-number word-stopped _ (ap spoken (c .before .before .before .before .w2 .given .1)) (omega arith)
+    (omega arith) (c .numbered2 .ensures)
 
 pub say-spec : {M : Type 1} → statement M
 say-spec =

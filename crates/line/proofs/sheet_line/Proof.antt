@@ -9,7 +9,8 @@ returns : tie.Need-returns
 returns c = long-sheet _ _ (c .if1 .taken)
 
 returns-2 : tie.Need-returns-2
-returns-2 c = sheet-printed _ _ (c .before .before .before .before .before .before .before .if1 .left) (omega arith) (c .before .before .before .before .put-text .ensures) (c .before .before .put-hex .ensures) (c .put-byte .ensures)
+returns-2 c = sheet-printed _ _ (c .before .before .before .before .before .before .before .if1 .left) (omega arith)
+    (c .before .before .before .before .put-text .ensures) (c .before .before .put-hex .ensures) (c .put-byte .ensures)
 
 pub sheet-line-spec : {M : Type 1} → statement M
 sheet-line-spec =

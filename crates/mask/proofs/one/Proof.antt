@@ -8,14 +8,15 @@ use Rattle.mask.proofs.Bits.{shl-one, has-pow}
 use Rattle.mask.proofs.one.Statement.{statement}
 use Rattle.mask.proofs.one.Tie as tie
 
-shl-result : tie.Need-shl-result
-shl-result c = search needs
-
 returns : tie.Need-returns
-returns c = record { holds = λ h e. ap (λ (x : ℕ). has x e) (shl-one 64 (c .before .args .d) h) ∙ has-pow (c .before .args .d) e; beyond = λ h. absurd (omega arith) }
+returns c = record {
+  holds = λ h e. ap (λ (x : ℕ). has x e) (shl-one 64 (c .before .args .d) h)
+      ∙ has-pow (c .before .args .d) e;
+  beyond = λ h. absurd (omega arith);
+}
 
 returns-2 : tie.Need-returns-2
 returns-2 c = record { holds = λ h e. absurd (omega arith); beyond = λ h. refl }
 
 pub one-spec : {M : Type 1} → statement M
-one-spec = tie.close (tie.spec shl-result returns returns-2)
+one-spec = tie.close (tie.spec (λ c. search needs) returns returns-2)

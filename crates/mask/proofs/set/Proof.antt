@@ -6,9 +6,6 @@ use Rattle.mask.proofs.Bits.{has-set}
 use Rattle.mask.proofs.set.Statement.{statement}
 use Rattle.mask.proofs.set.Tie as tie
 
-shl-result : tie.Need-shl-result
-shl-result c = search needs
-
 returns : tie.Need-returns
 returns c = record { holds = λ h e. has-set 64 (c .before .args .m) (c .before .args .d) e h; beyond = λ h. absurd (omega arith) }
 
@@ -16,4 +13,4 @@ returns-2 : tie.Need-returns-2
 returns-2 c = record { holds = λ h e. absurd (omega arith); beyond = λ h. refl }
 
 pub set-spec : {M : Type 1} → statement M
-set-spec = tie.close (tie.spec shl-result returns returns-2)
+set-spec = tie.close (tie.spec (λ c. search needs) returns returns-2)

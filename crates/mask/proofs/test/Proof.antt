@@ -6,9 +6,6 @@ use Rattle.mask.proofs.Bits.{has-shr}
 use Rattle.mask.proofs.test.Statement.{statement}
 use Rattle.mask.proofs.test.Tie as tie
 
-shr-result : tie.Need-shr-result
-shr-result c = search needs
-
 returns : tie.Need-returns
 returns c = has-shr (c .before .args .m) (c .before .args .d)
 
@@ -16,4 +13,4 @@ returns-2 : tie.Need-returns-2
 returns-2 c = sym (has-above 64 (search needs) (c .if1 .left))
 
 pub test-spec : {M : Type 1} → statement M
-test-spec = tie.close (tie.spec shr-result returns returns-2)
+test-spec = tie.close (tie.spec (λ c. search needs) returns returns-2)

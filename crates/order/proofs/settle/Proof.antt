@@ -1,96 +1,81 @@
 -- `order::settle` meets its contract.
-use Prim.Native.Nat.{ℕ}
-use mathlib.Core.Path.{_≡_, refl, sym, subst, _∙_}
-use mathlib.Core.List.{List}
-use lib.ListN.{getD, set}
-use Rattle.order.specs.Sorting.{Sorting, LowestAt}
-use Rattle.order.specs.Turn.{Done}
-use Rattle.order.proofs.Lowering.{seat, done}
+use Prim.Native.Nat.{_+_, _*_, _^_}
+use mathlib.Core.Path.{_≡_, refl, sym, _∙_}
+use lib.ListN.{getD}
+use Rattle.basics.specs.Limits.{disksMost}
+use Rattle.places.proofs.Seats.{ringed-unlink, ringed-bind}
+use Rattle.order.specs.Parts.{Sorting, LowerCopies}
+use Rattle.order.proofs.Lowering.{disk, lower-none, asked-less, done}
 use borrow.Author.Needs.{needs}
 use native.Mathlib.Omega.{arith}
 use Rattle.order.proofs.settle.Statement.{statement}
 use Rattle.order.proofs.settle.Tie as tie
 
 abbrev Inv-loop : tie.InvT-loop
-Inv-loop n q k cut₀ caps at₀ loads₀ dead₀ cut at loads dead = (cut ≡ cut₀) × Sorting n q k cut caps at loads dead
+Inv-loop n q k room cut₀ caps seats₀ counts₀ next₀ prev₀ out₀ by₀ dead₀ free₀ lower₀ cut seats counts next prev out by dead free lower =
+    (cut₀ ≡ cut) × Sorting n q k free cut caps seats counts next prev out by dead × LowerCopies k cut seats dead lower
 
 abbrev μ-loop : tie.MeasureT-loop
-μ-loop n q k cut₀ caps at₀ loads₀ dead₀ cut at loads dead = getD at k 0
+μ-loop n q k room cut₀ caps seats₀ counts₀ next₀ prev₀ out₀ by₀ dead₀ free₀ lower₀ cut seats counts next prev out by dead free lower =
+    getD seats k 0 * 2 ^ disksMost + lower
+
+lower-copies-requires : tie.Need-lower-copies-requires Inv-loop μ-loop
+lower-copies-requires c κs =
+    let p = c .before .before .before .pre in
+    (omega (arith, p .1, p .0 .bound .placed .blocks), disk (p .0) (p .1))
 
 loop-holds : tie.Need-loop-holds Inv-loop μ-loop
-loop-holds c = (refl, c .pre .0)
+loop-holds c = (refl, c .before .before .before .before .pre .0, c .lower-copies .ensures)
 
 lower-once-requires : tie.Need-lower-once-requires Inv-loop μ-loop
-lower-once-requires c κs = (c .before .before .before .before .loop .inv .1, c .before .before .before .before .before .pre .1)
+lower-once-requires c κs =
+    let l = c .before .before .before .before .before .before .before .before .before in
+    (l .loop .inv .1, l .before .before .before .before .before .pre .1, l .loop .inv .2)
+
+lower-copies-requires-2 : tie.Need-lower-copies-requires-2 Inv-loop μ-loop
+lower-copies-requires-2 c κs =
+    let w = c .before .before .before in
+    let l = w .before .before .before .before .before .before .before .before .before .before in
+    let p = l .before .before .before .before .before .pre in
+    (omega (arith, p .1, p .0 .bound .placed .blocks), disk (w .lower-once .ensures .sorting) (p .1))
 
 loop-less : tie.Need-loop-less Inv-loop μ-loop
-loop-less c = c .before .lower-once .ensures .fewer (c .if1 .taken)
+loop-less c =
+    let w = c .before .before .before .before in
+    let t = w .before .before .before .before .before .before .before .before .before .loop-test in
+    asked-less (w .lower-once .ensures) (t .taken) (c .lower-copies2 .ok) (c .lower-copies2 .ensures)
 
 loop-again : tie.Need-loop-again Inv-loop μ-loop
 loop-again c =
-    let s = c .before .before .before .before .before .before .before in
-    let a = s .args in
-    let l = c .before .before .before .before .before .before .loop in
-    let k = c .before .lower-once in
-    let e = k .ensures in
-    let g = subst (λ (y : List ℕ). Sorting (a .n) (a .q) (a .k) y (a .caps .now) (k .last .1 .1 .1 .1 .1 .0) (k .last .1 .1 .1 .1 .1 .1 .0) (k .last .1 .1 .1 .1 .1 .1 .1 .0)) (sym (e .copies)) (e .sorting) in
-    (e .copies ∙ l .inv .0, g)
+    let w = c .before .before .before .before in
+    let l = w .before .before .before .before .before .before .before .before .before .before .loop in
+    let e = w .lower-once .ensures in
+    (l .inv .0 ∙ sym (e .copies), e .sorting, c .lower-copies2 .ensures)
 
-element-copy-out-one : tie.Need-element-copy-out-one Inv-loop μ-loop
-element-copy-out-one c =
-    let s = c .before .before .before .before .before .before .before in
-    let a = s .args in
-    let l = c .before .before .before .before .before .before .loop in
-    let k = c .before .lower-once in
-    let e = k .ensures in
-    let g = subst (λ (y : List ℕ). Sorting (a .n) (a .q) (a .k) y (a .caps .now) (k .last .1 .1 .1 .1 .1 .0) (k .last .1 .1 .1 .1 .1 .1 .0) (k .last .1 .1 .1 .1 .1 .1 .1 .0)) (sym (e .copies)) (e .sorting) in
-    omega (arith, s .pre .1, g .bound .placed .blocks)
+cast-only : tie.Need-cast-only Inv-loop μ-loop
+cast-only c =
+    let l = c .before .before in
+    omega (arith, disk (l .loop .inv .1) (l .before .before .before .before .before .pre .1))
 
-cast-one : tie.Need-cast-one Inv-loop μ-loop
-cast-one c =
-    let s = c .before .before .before .before .before .before .before .before in
-    let a = s .args in
-    let l = c .before .before .before .before .before .before .before .loop in
-    let k = c .before .before .lower-once in
-    let e = k .ensures in
-    let g = subst (λ (y : List ℕ). Sorting (a .n) (a .q) (a .k) y (a .caps .now) (k .last .1 .1 .1 .1 .1 .0) (k .last .1 .1 .1 .1 .1 .1 .0) (k .last .1 .1 .1 .1 .1 .1 .1 .0)) (sym (e .copies)) (e .sorting) in
-    omega (arith, seat (a .n) (a .q) (a .k) (k .last .1 .1 .1 .0) (a .caps .now) (k .last .1 .1 .1 .1 .1 .0) (k .last .1 .1 .1 .1 .1 .1 .0) (k .last .1 .1 .1 .1 .1 .1 .1 .0) g (s .pre .1), g .bound .placed .disks)
+only-requires : tie.Need-only-requires Inv-loop μ-loop
+only-requires c κs =
+    let l = c .before .before in
+    disk (l .loop .inv .1) (l .before .before .before .before .before .pre .1)
 
-one-requires : tie.Need-one-requires Inv-loop μ-loop
-one-requires c κs = search needs
-
-mul-cut : tie.Need-mul-cut Inv-loop μ-loop
-mul-cut c =
-    let s = c .before .before .before .before .before .before .before .before .before in
-    let a = s .args in
-    let l = c .before .before .before .before .before .before .before .before .loop in
-    let k = c .before .before .before .lower-once in
-    let e = k .ensures in
-    let g = subst (λ (y : List ℕ). Sorting (a .n) (a .q) (a .k) y (a .caps .now) (k .last .1 .1 .1 .1 .1 .0) (k .last .1 .1 .1 .1 .1 .1 .0) (k .last .1 .1 .1 .1 .1 .1 .1 .0)) (sym (e .copies)) (e .sorting) in
-    omega (arith, s .pre .1, g .bound .placed .blocks)
-
-element-write-cut : tie.Need-element-write-cut Inv-loop μ-loop
-element-write-cut c =
-    let s = c .before .before .before .before .before .before .before .before .before in
-    let a = s .args in
-    let l = c .before .before .before .before .before .before .before .before .loop in
-    let k = c .before .before .before .lower-once in
-    let e = k .ensures in
-    let g = subst (λ (y : List ℕ). Sorting (a .n) (a .q) (a .k) y (a .caps .now) (k .last .1 .1 .1 .1 .1 .0) (k .last .1 .1 .1 .1 .1 .1 .0) (k .last .1 .1 .1 .1 .1 .1 .1 .0)) (sym (e .copies)) (e .sorting) in
-    omega (arith, s .pre .1, g .bound .placed .blocks)
+unlink-requires : tie.Need-unlink-requires Inv-loop μ-loop
+unlink-requires c κs =
+    let l = c .before .before .before .before .before in
+    ringed-unlink (l .loop .inv .1 .standing .ringed) _ (l .before .before .before .before .before .pre .1)
 
 returns : tie.Need-returns Inv-loop μ-loop
 returns c =
-    let s = c .before .before .before .before .before .before .before .before .before in
-    let a = s .args in
-    let l = c .before .before .before .before .before .before .before .before .loop in
-    let k = c .before .before .before .lower-once in
-    let e = k .ensures in
-    let g = subst (λ (y : List ℕ). Sorting (a .n) (a .q) (a .k) y (a .caps .now) (k .last .1 .1 .1 .1 .1 .0) (k .last .1 .1 .1 .1 .1 .1 .0) (k .last .1 .1 .1 .1 .1 .1 .1 .0)) (sym (e .copies)) (e .sorting) in
-    subst (λ (y : List ℕ). Done (a .n) (a .q) (a .k) y (a .caps .now) (set (k .last .1 .1 .1 .0) (a .k) (c .one .result)) (k .last .1 .1 .1 .1 .1 .0) (k .last .1 .1 .1 .1 .1 .1 .0) (k .last .1 .1 .1 .1 .1 .1 .1 .0))
-    (e .copies ∙ l .inv .0)
-    (done (a .n) (a .q) (a .k) (k .last .1 .1 .1 .0) (a .caps .now) (k .last .1 .1 .1 .1 .1 .0) (k .last .1 .1 .1 .1 .1 .1 .0) (k .last .1 .1 .1 .1 .1 .1 .1 .0) g (s .pre .1) (c .one .result) (c .one .ensures .holds (omega (arith, seat (a .n) (a .q) (a .k) (k .last .1 .1 .1 .0) (a .caps .now) (k .last .1 .1 .1 .1 .1 .0) (k .last .1 .1 .1 .1 .1 .1 .0) (k .last .1 .1 .1 .1 .1 .1 .1 .0) g (s .pre .1), g .bound .placed .disks)))
-    (subst (λ (y : List ℕ). LowestAt (a .n) (a .q) (a .k) y (a .caps .now) (k .last .1 .1 .1 .1 .1 .0)) (sym (e .copies)) (e .lowest (c .before .before .if1 .left))))
+    let l = c .before .before .before .before .before .before in
+    let s = l .loop .inv .1 in
+    let h = l .before .before .before .before .before .pre .1 in
+    let o = c .before .before .before .only in
+    let t = c .before .before .before .before .before .loop-test in
+    rw (l .loop .inv .0)
+    (done s h (o .result) (o .ensures) (lower-none (l .loop .inv .2) (t .left)) (ringed-bind (s .standing .ringed) h (c .unlink .ensures)))
 
 pub settle-spec : {M : Type 1} → statement M
 settle-spec =
@@ -98,13 +83,16 @@ settle-spec =
     (tie.spec
     Inv-loop
     μ-loop
+    lower-copies-requires
     loop-holds
     lower-once-requires
+    lower-copies-requires-2
     loop-less
     loop-again
-    element-copy-out-one
-    cast-one
-    one-requires
-    mul-cut
-    element-write-cut
+    (λ c. search needs)
+    cast-only
+    only-requires
+    (λ c. search needs)
+    (λ c. search needs)
+    unlink-requires
     returns)

@@ -1,10 +1,8 @@
 -- `order::spread` meets its contract.
-use Prim.Native.Nat.{ℕ, _≤_, _-_, _+_}
-use mathlib.Core.Path.{_≡_, sym, subst, _∙_}
+use Prim.Native.Nat.{_≤_, _-_}
+use mathlib.Core.Path.{_≡_, sym, _∙_}
 use mathlib.Core.Logic.{⊎-elim}
-use mathlib.Core.List.{List}
 use borrow.Author.Tests.{not-true, not-false}
-use Rattle.order.specs.Turn.{Spread}
 use Rattle.order.proofs.Spreads.{Told, told-start, told-keep, told-put}
 use borrow.Author.Needs.{needs}
 use native.Mathlib.Omega.{arith}
@@ -20,51 +18,24 @@ abbrev μ-loop : tie.MeasureT-loop
 loop-holds : tie.Need-loop-holds Inv-loop μ-loop
 loop-holds c = (omega arith, told-start (c .args .x) (c .args .dead .now))
 
-test-requires : tie.Need-test-requires Inv-loop μ-loop
-test-requires c κs = search needs
-
-mul-either : tie.Need-mul-either Inv-loop μ-loop
-mul-either c = search needs
-
-element-copy-out-either : tie.Need-element-copy-out-either Inv-loop μ-loop
-element-copy-out-either c = search needs
-
-either-requires : tie.Need-either-requires Inv-loop μ-loop
-either-requires c κs = search needs
-
-mul-dead : tie.Need-mul-dead Inv-loop μ-loop
-mul-dead c = search needs
-
-element-write-dead : tie.Need-element-write-dead Inv-loop μ-loop
-element-write-dead c = search needs
-
-add-d : tie.Need-add-d Inv-loop μ-loop
-add-d c = search needs
-
-loop-less : tie.Need-loop-less Inv-loop μ-loop
-loop-less c = search needs
-
 loop-again : tie.Need-loop-again Inv-loop μ-loop
 loop-again c =
-    let a = c .before .before .before .before .args in
     let l = c .before .before .before .loop in
-    let e = c .before .test .ensures in
-    let T : List ℕ → Type 0 = λ y. Told (l .d + 1) (a .x) (a .dead .now) y in (
+    let s = c .before .before .before .before in
+    let e = c .before .held .ensures in (
       omega arith,
       ⊎-elim
-          (λ w. subst T (sym (w .3))
-          (told-put (a .x) (a .dead .now) (l .d) (l .dead) (l .inv .1) (sym e ∙ not-true _ (w .0 .taken))
-          (omega (arith, l .inv .1 .done .long, c .before .before .before .before .pre .0, c .before .before .before .before .pre .1)) (w .2 .result) (w .2 .ensures)))
-          (λ w. subst T (sym (w .1)) (told-keep (a .x) (a .dead .now) (l .d) (l .dead) (l .inv .1) (sym e ∙ not-false _ (w .0 .left))))
+          (λ w. rw (w .3) (told-put (l .inv .1) (sym e ∙ not-true _ (w .0 .taken))
+          (omega (arith, l .inv .1 .done .long, s .pre .0, s .pre .1)) (w .2 .result) (w .2 .ensures)))
+          (λ w. rw (w .1) (told-keep (l .inv .1) (sym e ∙ not-false _ (w .0 .left))))
           (c .if1 .came),
     )
 
 returns : tie.Need-returns Inv-loop μ-loop
 returns c =
-    let a = c .before .before .args in
     let l = c .before .loop in
-    let e : l .d ≡ a .n = omega arith in
-    subst (λ (y : ℕ). Spread y (a .x) (a .dead .now) (l .dead)) e (l .inv .1 .done)
+    let e : l .d ≡ c .before .before .args .n = omega arith in
+    rw e at (l .inv .1 .done)
 
 pub spread-spec : {M : Type 1} → statement M
 spread-spec =
@@ -73,13 +44,13 @@ spread-spec =
     Inv-loop
     μ-loop
     loop-holds
-    test-requires
-    mul-either
-    element-copy-out-either
-    either-requires
-    mul-dead
-    element-write-dead
-    add-d
-    loop-less
+    (λ c κs. search needs)
+    (λ c. search needs)
+    (λ c. search needs)
+    (λ c κs. search needs)
+    (λ c. search needs)
+    (λ c. search needs)
+    (λ c. search needs)
+    (λ c. search needs)
     loop-again
     returns)

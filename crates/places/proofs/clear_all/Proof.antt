@@ -1,68 +1,59 @@
 -- `places::clear_all` meets its contract.
-use Prim.Native.Nat.{ℕ, _≤_, _<_, _-_}
-use mathlib.Core.Path.{_≡_, ap, _∙_}
-use lib.Dec.{eqb}
-use lib.ListN.{getD, set, length, length-set}
-use lib.Seq.{getD-set-same, getD-set-other}
-use borrow.Author.Tests.{eqb-true, eqb-false}
-use Rattle.basics.proofs.Tests.{by-cases}
-use Rattle.places.proofs.Steps.{placed-none}
-use borrow.Author.Needs.{needs}
+use Prim.Native.Nat.{ℕ, _+_, _-_, _≤_}
+use mathlib.Core.Path.{_≡_, subst}
+use Rattle.basics.specs.Limits.{blocksMost}
+use Rattle.places.proofs.Clearing.{Clearing, clearing-start, clearing-more, cleared}
 use native.Mathlib.Omega.{arith}
 use Rattle.places.proofs.clear_all.Statement.{statement}
 use Rattle.places.proofs.clear_all.Tie as tie
 
 abbrev Inv-loop : tie.InvT-loop
-Inv-loop n q at₀ loads b₀ at b = (b ≤ q) × (length at ≡ 1024) × ((i : ℕ) → i < b → getD at i 0 ≡ n)
+Inv-loop n q seats₀ counts next₀ prev₀ b₀ seats next prev b = (b ≤ q) × Clearing n b seats next prev
 
 abbrev μ-loop : tie.MeasureT-loop
-μ-loop n q at₀ loads b₀ at b = q - b
+μ-loop n q seats₀ counts next₀ prev₀ b₀ seats next prev b = q - b
+
+rings-requires : tie.Need-rings-requires Inv-loop μ-loop
+rings-requires c κs =
+    let p = c .before .before .pre in (
+      p .disks,
+      record {
+        forth = λ e l. absurd (omega arith);
+        back = λ e l. absurd (omega arith);
+        long-next = p .long-next;
+        long-prev = p .long-prev;
+        bounded-next = p .bounded-next;
+        bounded-prev = p .bounded-prev;
+      },
+    )
 
 loop-holds : tie.Need-loop-holds Inv-loop μ-loop
-loop-holds c = (omega arith, c .pre .places, λ i h. let z : ⊥ = omega arith in absurd z)
+loop-holds c =
+    let p = c .before .before .before .pre in (omega arith, clearing-start (omega (arith, p .disks)) (p .long-seats) (c .rings .ensures))
 
-cast-at : tie.Need-cast-at Inv-loop μ-loop
-cast-at c = search needs
-
-element-write-at : tie.Need-element-write-at Inv-loop μ-loop
-element-write-at c = search needs
-
-add-b : tie.Need-add-b Inv-loop μ-loop
-add-b c = search needs
-
-loop-less : tie.Need-loop-less Inv-loop μ-loop
-loop-less c = search needs
+link-requires : tie.Need-link-requires Inv-loop μ-loop
+link-requires c κs =
+    let l = c .before .before .before in
+    let s = l .before .before .before .before in (
+      omega (arith, c .before .before .loop-test .taken, s .pre .blocks),
+      omega (arith, s .pre .disks),
+      l .loop .inv .1 .ringed .bounded-prev (blocksMost + s .args .n),
+    )
 
 loop-again : tie.Need-loop-again Inv-loop μ-loop
 loop-again c =
-    let a = c .before .before .args in
-    let l = c .before .loop in (
-      omega arith,
-      length-set (l .at) (l .b) (a .n) ∙ l .inv .1,
-      λ i h. by-cases (eqb i (l .b))
-          (λ t. ap (λ (y : ℕ). getD (set (l .at) (l .b) (a .n)) y 0) (eqb-true i (l .b) t)
-          ∙ getD-set-same (l .at) (l .b) (a .n) 0 (omega (arith, l .inv .1, c .before .before .pre .blocks)))
-          (λ t. getD-set-other (l .at) (l .b) i (a .n) 0 (eqb-false i (l .b) t)
-          ∙ l .inv .2 i (let z = eqb-false i (l .b) t in omega arith)),
+    let t = c .before .before .before in
+    let s = t .before .before .before .before .before in (
+      omega (arith, t .loop-test .taken),
+      clearing-more (t .before .loop .inv .1) (omega (arith, t .loop-test .taken, s .pre .blocks)) (c .link .ensures),
     )
-
-cast-loads : tie.Need-cast-loads Inv-loop μ-loop
-cast-loads c = search needs
-
-mul-loads : tie.Need-mul-loads Inv-loop μ-loop
-mul-loads c = search needs
-
-element-write-loads : tie.Need-element-write-loads Inv-loop μ-loop
-element-write-loads c = search needs
 
 returns : tie.Need-returns Inv-loop μ-loop
 returns c =
-    let a = c .before .before .args in
     let l = c .before .loop in
-    record {
-      placed = placed-none (a .n) (a .q) (a .at .now) (l .at) (a .loads .now) (c .before .before .pre) (l .inv .1) (λ i h. l .inv .2 i (omega arith));
-      none = λ d h. getD-set-other (a .loads .now) (a .n) d (a .q) 0 (omega arith) ∙ c .before .before .pre .none d h;
-    }
+    let s = c .before .before .before .before .before in
+    let e : l .b ≡ s .args .q = omega (arith, l .inv .0, c .loop-test .left) in
+    cleared (s .pre) (subst (λ (b : ℕ). Clearing (s .args .n) b (l .seats) (l .next) (l .prev)) e (l .inv .1))
 
 pub clear-all-spec : {M : Type 1} → statement M
 clear-all-spec =
@@ -70,13 +61,16 @@ clear-all-spec =
     (tie.spec
     Inv-loop
     μ-loop
+    rings-requires
     loop-holds
-    cast-at
-    element-write-at
-    add-b
-    loop-less
+    (λ c. omega (arith, c .before .before .before .before .before .pre .disks))
+    (λ c. omega (arith, c .loop-test .taken, c .before .before .before .before .before .pre .blocks))
+    (λ c. omega (arith, c .before .before .before .before .before .pre .disks))
+    link-requires
+    (λ c. let t = c .before .before .before in omega (arith, t .loop-test .taken, t .before .before .before .before .before .pre .blocks))
+    (λ c. omega (arith, c .before .before .before .loop-test .taken))
     loop-again
-    cast-loads
-    mul-loads
-    element-write-loads
+    (λ c. omega (arith, c .before .before .before .before .before .pre .blocks))
+    (λ c. omega (arith, c .before .before .before .before .before .pre .disks))
+    (λ c. omega (arith, c .before .before .before .before .before .pre .disks))
     returns)

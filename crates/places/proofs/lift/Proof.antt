@@ -1,72 +1,57 @@
--- `places::lift` meets its contract.
-use Prim.Native.Nat.{ℕ, _+_, _-_}
-use mathlib.Core.Path.{sym, subst}
-use mathlib.Core.Logic.{⊎-elim}
-use mathlib.Core.List.{List}
-use Rattle.places.proofs.Laws.{movable}
-use Rattle.places.proofs.Steps.{Eased, eased-start, eased-end, eased-keep, eased-off}
+-- `places::lift` meets its contract. The measure: disks that are still to be looked at, and blocks that may still come off.
+use Prim.Native.Nat.{_+_, _-_}
+use lib.ListN.{getD}
+use Rattle.basics.specs.Limits.{blocksMost}
+use Rattle.places.specs.Places.{entry}
+use Rattle.places.proofs.Laws.{reads-most}
+use Rattle.places.proofs.Clearing.{Lifting, lifting-start, lifting-next, lifting-shifting, lifting-off, lifting-end, lifting-block}
 use borrow.Author.Needs.{needs}
 use native.Mathlib.Omega.{arith}
 use Rattle.places.proofs.lift.Statement.{statement}
 use Rattle.places.proofs.lift.Tie as tie
 
 abbrev Inv-loop : tie.InvT-loop
-Inv-loop n q masks caps at₀ loads₀ b₀ at loads b = Eased n q masks caps at loads b
+Inv-loop n q masks caps seats₀ counts₀ next₀ prev₀ out₀ d₀ seats counts next prev out d =
+    Lifting n q masks caps seats counts next prev out d
 
 abbrev μ-loop : tie.MeasureT-loop
-μ-loop n q masks caps at₀ loads₀ b₀ at loads b = q - b
-
-loop-holds : tie.Need-loop-holds Inv-loop μ-loop
-loop-holds c = let a = c .args in eased-start (a .n) (a .q) (a .masks .now) (a .caps .now) (a .at .now) (a .loads .now) (c .pre .0) (c .pre .1)
-
-element-copy-out-d : tie.Need-element-copy-out-d Inv-loop μ-loop
-element-copy-out-d c = let l = c .before .loop in omega (arith, l .inv .placed .blocks, l .inv .placed .disks, l .inv .later (l .b) (omega arith) (omega arith))
-
-cast-d : tie.Need-cast-d Inv-loop μ-loop
-cast-d c = let l = c .before .before .loop in omega (arith, l .inv .placed .blocks, l .inv .placed .disks, l .inv .later (l .b) (omega arith) (omega arith))
+μ-loop n q masks caps seats₀ counts₀ next₀ prev₀ out₀ d₀ seats counts next prev out d = n - d + (blocksMost + 1 - getD counts n 0)
 
 mul-if1 : tie.Need-mul-if1 Inv-loop μ-loop
-mul-if1 c = let l = c .before .before .loop in omega (arith, l .inv .placed .blocks, l .inv .placed .disks, l .inv .later (l .b) (omega arith) (omega arith))
+mul-if1 c = omega (arith, c .before .loop .inv .seated .placed .disks)
 
-element-copy-out-if1 : tie.Need-element-copy-out-if1 Inv-loop μ-loop
-element-copy-out-if1 c = let l = c .before .before .loop in omega (arith, l .inv .placed .blocks, l .inv .placed .disks, l .inv .later (l .b) (omega arith) (omega arith))
-
-mul-if1-2 : tie.Need-mul-if1-2 Inv-loop μ-loop
-mul-if1-2 c = let l = c .before .before .before .loop in omega (arith, l .inv .placed .blocks, l .inv .placed .disks, l .inv .later (l .b) (omega arith) (omega arith))
-
-element-copy-out-if1-2 : tie.Need-element-copy-out-if1-2 Inv-loop μ-loop
-element-copy-out-if1-2 c = let l = c .before .before .before .loop in omega (arith, l .inv .placed .blocks, l .inv .placed .disks, l .inv .later (l .b) (omega arith) (omega arith))
+cast-b : tie.Need-cast-b Inv-loop μ-loop
+cast-b c =
+    let t = c .before .before .before .before in
+    omega (arith, lifting-block (t .before .loop .inv) (t .loop-test .taken) (c .before .if1 .taken))
 
 shift-requires : tie.Need-shift-requires Inv-loop μ-loop
 shift-requires c κs =
-    let a = c .before .before .before .before .before .before .before .before .args in
-    let l = c .before .before .before .before .before .before .before .loop in
-    movable (a .n) (a .q) (a .masks .now) (l .at) (l .loads) (l .inv .placed) (l .b) (a .n) (omega arith) (omega arith)
-    (λ e. omega (arith, e, l .inv .later (l .b) (omega arith) (omega arith)))
-
-add-b : tie.Need-add-b Inv-loop μ-loop
-add-b c = search needs
+    let i = c .before .before .before .before .before .before in
+    let t = i .before .before .before in
+    lifting-shifting (t .before .loop .inv) (t .loop-test .taken) (i .if1 .taken)
 
 loop-less : tie.Need-loop-less Inv-loop μ-loop
-loop-less c = search needs
+loop-less c =
+    let l = c .before .before .before .before .before .before .before .before .before .before .before in
+    let a = l .before .args in
+    let p = l .loop .inv .seated .placed in
+    omega (
+      arith,
+      c .shift .ensures .moved .more,
+      p .tally (a .n) (omega arith),
+      reads-most (a .q) (entry (l .loop .seats)) (a .n),
+      p .blocks,
+    )
 
 loop-again : tie.Need-loop-again Inv-loop μ-loop
 loop-again c =
-    let a = c .before .before .before .before .before .before .args in
-    let l = c .before .before .before .before .before .loop in
-    let E : List ℕ → List ℕ → Type 0 = λ x y. Eased (a .n) (a .q) (a .masks .now) (a .caps .now) x y (l .b + 1) in
-    ⊎-elim
-    (λ w. subst (λ (y : List ℕ). E (c .if1 .at) y) (sym (w .5)) (subst (λ (x : List ℕ). E x (w .3 .last .1 .1 .1 .0)) (sym (w .4))
-    (eased-off (a .n) (a .q) (a .masks .now) (a .caps .now) (l .at) (l .loads) (l .b) (omega arith) (l .inv) (w .3 .last .1 .1 .0) (w .3 .last .1 .1 .1 .0) (w .3 .result) (w .3 .ensures) (w .0 .taken))))
-    (λ w. subst (λ (y : List ℕ). E (c .if1 .at) y) (sym (w .2)) (subst (λ (x : List ℕ). E x (l .loads)) (sym (w .1))
-    (eased-keep (a .n) (a .q) (a .masks .now) (a .caps .now) (l .at) (l .loads) (l .b) (omega arith) (l .inv) (w .0 .left))))
-    (c .if1 .came)
+    let i = c .before .before .before .before .before .before .before in
+    let t = i .before .before .before in
+    lifting-off (t .before .loop .inv) (t .loop-test .taken) (i .if1 .taken) (c .shift .ensures)
 
-returns : tie.Need-returns Inv-loop μ-loop
-returns c =
-    let a = c .before .before .args in
-    let l = c .before .loop in
-    (l .inv .placed, eased-end (a .n) (a .q) (a .masks .now) (a .caps .now) (l .at) (l .loads) (l .b) (omega arith) (l .inv))
+loop-again-2 : tie.Need-loop-again-2 Inv-loop μ-loop
+loop-again-2 c = lifting-next (c .before .before .before .before .loop .inv) (c .before .before .before .loop-test .taken) (c .if1 .left)
 
 pub lift-spec : {M : Type 1} → statement M
 lift-spec =
@@ -74,15 +59,19 @@ lift-spec =
     (tie.spec
     Inv-loop
     μ-loop
-    loop-holds
-    element-copy-out-d
-    cast-d
+    (λ c. lifting-start (c .pre))
     mul-if1
-    element-copy-out-if1
-    mul-if1-2
-    element-copy-out-if1-2
+    (λ c. omega (arith, c .before .loop .inv .seated .placed .disks))
+    (λ c. omega (arith, c .before .before .loop .inv .seated .placed .disks))
+    (λ c. omega (arith, c .before .before .loop .inv .seated .placed .disks))
+    (λ c. omega (arith, c .before .before .before .before .loop .inv .seated .placed .disks))
+    (λ c. omega (arith, c .before .before .before .before .loop .inv .seated .placed .disks))
+    (λ c. omega (arith, c .before .before .before .before .loop .inv .seated .placed .disks))
+    cast-b
     shift-requires
-    add-b
     loop-less
     loop-again
-    returns)
+    (λ c. omega (arith, c .before .before .before .before .loop .inv .seated .placed .disks))
+    (λ c. search needs)
+    loop-again-2
+    (λ c. lifting-end (c .before .loop .inv) (c .loop-test .left)))

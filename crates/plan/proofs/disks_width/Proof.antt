@@ -1,14 +1,13 @@
 -- `disks_width`. The loop's invariant: the sum is the length of the numbers passed.
 use borrow.Author.Needs.{needs}
 use native.Mathlib.Omega.{arith}
-use Prim.Native.Nat.{ℕ, _+_}
+use Prim.Native.Nat.{ℕ, _+_, _-_, _≤_}
 use mathlib.Core.Path.{_≡_, ap, _∙_}
-use Prim.Native.Nat.{_-_, _≤_}
 use lib.ListN.{length, take, getD, length-take}
 use Rattle.number.specs.Encode.{encode}
 use Rattle.number.proofs.Encode.{width-bounds}
 use Rattle.field.specs.Put.{spellAll}
-use Rattle.plan.proofs.Spell.{width-none, width-next, width-all, numbers-bound}
+use Rattle.plan.proofs.Writing.{width-none, width-next, width-all, numbers-bound}
 use Rattle.plan.proofs.disks_width.Statement.{statement}
 use Rattle.plan.proofs.disks_width.Tie as tie
 
@@ -21,26 +20,25 @@ abbrev μ-loop : tie.MeasureT-loop
 loop-holds : tie.Need-loop-holds Inv-loop μ-loop
 loop-holds c = (omega arith, width-none (c .before .args .xs .now))
 
-shared-slice-read-width : tie.Need-shared-slice-read-width Inv-loop μ-loop
-shared-slice-read-width c = search needs
-
 cast-width : tie.Need-cast-width Inv-loop μ-loop
 cast-width c = omega (arith, c .shared-slice-known2 .given (c .before .before .loop .i))
 
-width-requires : tie.Need-width-requires Inv-loop μ-loop
-width-requires c κs = search needs
-
 add-n : tie.Need-add-n Inv-loop μ-loop
-add-n c = omega (arith, numbers-bound (take (c .before .before .before .loop .i) (c .before .before .before .before .before .args .xs .now)), length-take (c .before .before .before .loop .i) (c .before .before .before .before .before .args .xs .now), width-bounds (getD (c .before .before .before .before .before .args .xs .now) (c .before .before .before .loop .i) 0), c .width .ensures)
-
-add-i : tie.Need-add-i Inv-loop μ-loop
-add-i c = search needs
-
-loop-less : tie.Need-loop-less Inv-loop μ-loop
-loop-less c = search needs
+add-n c = omega (
+  arith,
+  numbers-bound (take (c .before .before .before .loop .i) (c .before .before .before .before .before .args .xs .now)),
+  length-take (c .before .before .before .loop .i) (c .before .before .before .before .before .args .xs .now),
+  width-bounds (getD (c .before .before .before .before .before .args .xs .now) (c .before .before .before .loop .i) 0),
+  c .width .ensures,
+)
 
 loop-again : tie.Need-loop-again Inv-loop μ-loop
-loop-again c = (omega arith, ap (λ (k : ℕ). c .before .before .before .loop .n + k) (c .width .ensures) ∙ width-next (c .before .before .before .before .before .args .xs .now) (c .before .before .before .loop .i) _ (omega arith) (c .before .before .before .loop .inv .1))
+loop-again c = (
+  omega arith,
+  ap (λ (k : ℕ). c .before .before .before .loop .n + k) (c .width .ensures)
+      ∙ width-next (c .before .before .before .before .before .args .xs .now) (c .before .before .before .loop .i) _ (omega arith)
+      (c .before .before .before .loop .inv .1),
+)
 
 returns : tie.Need-returns Inv-loop μ-loop
 returns c = width-all (c .before .before .before .args .xs .now) (c .before .loop .i) _ (omega arith) (c .before .loop .inv .1)
@@ -52,11 +50,11 @@ disks-width-spec =
     Inv-loop
     μ-loop
     loop-holds
-    shared-slice-read-width
+    (λ c. search needs)
     cast-width
-    width-requires
+    (λ c κs. search needs)
     add-n
-    add-i
-    loop-less
+    (λ c. search needs)
+    (λ c. search needs)
     loop-again
     returns)

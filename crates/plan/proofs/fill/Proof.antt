@@ -1,7 +1,7 @@
 -- `fill`: either list is too short, or both are read from their places, which the frame says are good.
 use borrow.Author.Needs.{needs}
 use native.Mathlib.Omega.{arith}
-use Rattle.plan.proofs.Receiving.{few-disks, few-members, received}
+use Rattle.plan.proofs.Reading.{few-disks, few-members, received}
 use Rattle.plan.proofs.fill.Statement.{statement}
 use Rattle.plan.proofs.fill.Tie as tie
 
@@ -12,7 +12,10 @@ returns-2 : tie.Need-returns-2
 returns-2 c = λ p e w. few-members p e _ _ w (omega arith)
 
 returns-3 : tie.Need-returns-3
-returns-3 c = λ p e w. received p e _ _ w _ (c .before .before .before .before .last .ensures) (c .before .before .before .before .before .before .before .before .before .before .if1 .left) (c .before .before .before .before .before .before .before .before .before .if2 .left) (c .before .before .before .before .before .before .before .read-disks .ensures .held) (c .before .before .read-short .ensures .held)
+returns-3 c = λ p e w. received p e _ _ w _ (c .before .before .before .before .last .ensures)
+    (c .before .before .before .before .before .before .before .before .before .before .if1 .left)
+    (c .before .before .before .before .before .before .before .before .before .if2 .left)
+    (c .before .before .before .before .before .before .before .read-disks .ensures .held) (c .before .before .read-short .ensures .held)
 
 pub fill-spec : {M : Type 1} → statement M
 fill-spec =

@@ -1,5 +1,5 @@
 -- `if_any`: the two cases of the bound.
-use Rattle.plan.proofs.Bounds.{any-none, any-some}
+use Rattle.plan.proofs.Reading.{any-none, any-some}
 use Rattle.plan.proofs.if_any.Statement.{statement}
 use Rattle.plan.proofs.if_any.Tie as tie
 

@@ -1,8 +1,8 @@
 -- `lists`: the disks, the size and the short set with the end, each at the place where the one before ended.
 use borrow.Author.Needs.{needs}
-use Rattle.plan.proofs.Checking.{bounds-size, lists-disks, lists-size, lists-short, lists-done}
-use Rattle.plan.specs.Frame.{Checked}
-use Rattle.field.proofs.Spelt.{inside-spelt}
+use Rattle.plan.proofs.Reading.{bounds-size, lists-disks, lists-size, lists-short, lists-done}
+use Rattle.plan.specs.Parts.{Checked}
+use Rattle.field.proofs.Values.{between-range}
 use Rattle.field.proofs.Readers.{told-got, told-refused}
 use Rattle.field.specs.Told.{told}
 use Rattle.number.specs.Bytes.{Bytes}
@@ -12,22 +12,37 @@ use Rattle.plan.proofs.lists.Tie as tie
 
 short-last-requires : tie.Need-short-last-requires
 unfolding Bytes
-short-last-requires c κs = (inside-spelt _ _ _ _ (λ i. c .before .before .before .before .before .before .before .before .before .shared-slice-known .given i .fits) _ _ (told-got (c .before .before .before .ranged .ensures) (c .before .m .given .1)) .2, c .before .before .before .before .before .before .before .before .before .before .pre)
-
-enum-told : tie.Need-enum-told
-enum-told c = search needs
+short-last-requires c κs = (
+  between-range _ _ 6 6 _ _ (told-got (c .before .before .before .inside .ensures) (c .before .m .given .1)) .1,
+  c .before .before .before .before .before .before .before .before .before .before .pre,
+)
 
 returns : tie.Need-returns
 unfolding told
-returns c = lists-done _ _ _ _ (c .before .before .before .before .before .before .before .before .before .before .before .past-disks .ensures) (c .before .before .before .before .before .before .before .before .before .p .given .1) (bounds-size _ _ _ _ (c .before .before .before .before .before .before .before .if-any .ensures) (told-got (c .before .before .before .before .before .before .ranged .ensures) (c .before .before .before .before .m .given .1))) (c .before .before .before .before .before .before .before .before .before .before .before .before .before .pre) (sym (c .before .before .short-last .ensures) ∙ ap told (c .enum-told .given .1))
+returns c = lists-done _ _ _ _
+    (c .before .before .before .before .before .before .before .before .before .before .before .past-disks .ensures)
+    (c .before .before .before .before .before .before .before .before .before .p .given .1)
+    (bounds-size _ _ _ _ (c .before .before .before .before .before .before .before .if-any .ensures)
+    (told-got (c .before .before .before .before .before .before .inside .ensures) (c .before .before .before .before .m .given .1)))
+    (c .before .before .before .before .before .before .before .before .before .before .before .before .before .pre)
+    (sym (c .before .before .short-last .ensures) ∙ ap told (c .enum-told .given .1))
 
 returns-2 : tie.Need-returns-2
 unfolding told Checked
-returns-2 c = lists-short _ _ _ _ (c .before .before .before .before .before .before .before .before .before .before .before .before .past-disks .ensures) (c .before .before .before .before .before .before .before .before .before .before .p .given .1) (bounds-size _ _ _ _ (c .before .before .before .before .before .before .before .before .if-any .ensures) (told-got (c .before .before .before .before .before .before .before .ranged .ensures) (c .before .before .before .before .before .m .given .1))) (sym (c .before .before .before .short-last .ensures) ∙ ap told (c .before .e .given .1))
+returns-2 c = lists-short _ _ _ _
+    (c .before .before .before .before .before .before .before .before .before .before .before .before .past-disks .ensures)
+    (c .before .before .before .before .before .before .before .before .before .before .p .given .1)
+    (bounds-size _ _ _ _ (c .before .before .before .before .before .before .before .before .if-any .ensures)
+    (told-got (c .before .before .before .before .before .before .before .inside .ensures)
+    (c .before .before .before .before .before .m .given .1))) (sym (c .before .before .before .short-last .ensures)
+    ∙ ap told (c .before .e .given .1))
 
 returns-3 : tie.Need-returns-3
 unfolding Checked
-returns-3 c = lists-size _ _ _ _ (c .before .before .before .before .before .before .before .before .past-disks .ensures) (c .before .before .before .before .before .before .p .given .1) (bounds-size _ _ _ _ (c .before .before .before .before .if-any .ensures) (told-refused (c .before .before .before .ranged .ensures) (c .before .e2 .given .1)))
+returns-3 c = lists-size _ _ _ _ (c .before .before .before .before .before .before .before .before .past-disks .ensures)
+    (c .before .before .before .before .before .before .p .given .1)
+    (bounds-size _ _ _ _ (c .before .before .before .before .if-any .ensures)
+    (told-refused (c .before .before .before .inside .ensures) (c .before .e2 .given .1)))
 
 returns-4 : tie.Need-returns-4
 unfolding Checked
@@ -43,7 +58,7 @@ lists-spec =
     (λ c κs. search needs)
     (λ c. search needs)
     short-last-requires
-    enum-told
+    (λ c. search needs)
     (λ c. search needs)
     (λ c. search needs)
     (λ c. search needs)

@@ -1,46 +1,39 @@
--- `put_disks`. The loop's invariant: the numbers passed stand behind what was written before (`Adds`).
+-- `put_disks`. The loop's invariant: the numbers passed were put, and nothing else.
 use borrow.Author.Needs.{needs}
 use native.Mathlib.Omega.{arith}
-use mathlib.Core.Path.{_≡_, refl}
-use Prim.Native.Nat.{_-_, _≤_}
+use Prim.Native.Nat.{_+_, _-_, _≤_}
 use lib.ListN.{length, take}
-use Rattle.plan.specs.Adds.{Adds}
-use Rattle.plan.proofs.Adding.{adds-none, adds-next, adds-whole}
+use Rattle.number.specs.Encode.{encode}
+use Rattle.field.specs.Put.{spellAll, Laid}
+use Rattle.field.proofs.Puts.{laid-none, laid-length}
+use Rattle.plan.proofs.Writing.{numbers-more, numbers-all}
 use Rattle.plan.proofs.put_disks.Statement.{statement}
 use Rattle.plan.proofs.put_disks.Tie as tie
 
 abbrev Inv-loop : tie.InvT-loop
-Inv-loop xs out₀ at p₀ i₀ out p i = (i ≤ length xs) × Adds (take i xs) out₀ at out p × (length out ≡ length out₀)
+Inv-loop xs out₀ at p₀ i₀ out p i =
+    (i ≤ length xs) × (at + length (spellAll encode xs) ≤ length out₀) × Laid out₀ at (spellAll encode (take i xs)) out p
 
 abbrev μ-loop : tie.MeasureT-loop
 μ-loop xs out₀ at p₀ i₀ out p i = length xs - i
 
 loop-holds : tie.Need-loop-holds Inv-loop μ-loop
-loop-holds c = (omega arith, adds-none _ _, refl)
-
-shared-slice-read-put : tie.Need-shared-slice-read-put Inv-loop μ-loop
-shared-slice-read-put c = search needs
+unfolding spellAll
+loop-holds c = (omega arith, c .before .before .pre, laid-none _ _ (omega (arith, c .before .before .pre)))
 
 cast-put : tie.Need-cast-put Inv-loop μ-loop
 cast-put c = omega (arith, c .shared-slice-known2 .given (c .before .before .loop .i))
 
-put-requires : tie.Need-put-requires Inv-loop μ-loop
-put-requires c κs = search needs
-
-add-i : tie.Need-add-i Inv-loop μ-loop
-add-i c = search needs
-
-loop-less : tie.Need-loop-less Inv-loop μ-loop
-loop-less c = search needs
-
 loop-again : tie.Need-loop-again Inv-loop μ-loop
-loop-again c = (omega arith, adds-next (c .before .before .before .before .before .before .before .before .before .args .xs .now) (c .before .before .before .before .before .before .loop .i) (omega arith) (c .before .before .before .before .before .before .loop .inv .1) (c .before .before .put .ensures), search needs)
+loop-again c = let turn = c .before .before .before .before .before in
+    let inv = turn .before .loop .inv in
+    (omega arith, inv .1, numbers-more _ _ (inv .2) (turn .loop-test .taken) (inv .1) (c .before .before .put .ensures))
 
 same-length : tie.Need-same-length Inv-loop μ-loop
-same-length c = search needs
+same-length c = laid-length (c .before .loop .inv .2)
 
 returns : tie.Need-returns Inv-loop μ-loop
-returns c = adds-whole (c .before .before .before .before .args .xs .now) (c .before .loop .i) (omega arith) (c .before .loop .inv .1)
+returns c = numbers-all _ (c .before .loop .i) (c .before .loop .inv .2) (omega (arith, c .before .loop .inv .0))
 
 pub put-disks-spec : {M : Type 1} → statement M
 put-disks-spec =
@@ -49,11 +42,11 @@ put-disks-spec =
     Inv-loop
     μ-loop
     loop-holds
-    shared-slice-read-put
+    (λ c. search needs)
     cast-put
-    put-requires
-    add-i
-    loop-less
+    (λ c κs. search needs)
+    (λ c. search needs)
+    (λ c. search needs)
     loop-again
     same-length
     returns)

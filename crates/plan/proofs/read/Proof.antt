@@ -1,6 +1,6 @@
 -- `read`: a refused sheet leaves all as it was; of a whole one the frame says what the lists get.
 use borrow.Author.Needs.{needs}
-use Rattle.plan.proofs.Receiving.{found-few, found-refused, found-whole}
+use Rattle.plan.proofs.Reading.{found-few, found-refused, found-whole}
 use Rattle.plan.proofs.read.Statement.{statement}
 use Rattle.plan.proofs.read.Tie as tie
 
@@ -8,7 +8,9 @@ fill-requires : tie.Need-fill-requires
 fill-requires c κs = found-few _ _ _ (c .before .before .before .before .before .check .ensures) _ (c .before .before .before .f .given .1)
 
 returns : tie.Need-returns
-returns c = found-whole _ _ _ _ _ _ _ _ _ _ (c .before .before .before .before .before .before .before .before .before .before .check .ensures) (c .before .before .before .before .before .before .before .before .f .given .1) (c .before .before .before .before .fill .ensures)
+returns c = found-whole _ _ _ _ _ _ _ _ _ _
+    (c .before .before .before .before .before .before .before .before .before .before .check .ensures)
+    (c .before .before .before .before .before .before .before .before .f .given .1) (c .before .before .before .before .fill .ensures)
 
 returns-2 : tie.Need-returns-2
 returns-2 c = found-refused _ _ _ (c .before .before .before .check .ensures) _ _ _ _ (c .before .e .given .1)

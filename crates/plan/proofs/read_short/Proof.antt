@@ -5,14 +5,15 @@ use Rattle.number.specs.Bytes.{Bytes}
 use Prim.Native.Nat.{_-_, _≤_}
 use Rattle.field.specs.Field.{ascending}
 use Rattle.field.proofs.Readers.{told-got, told-refused}
-use Rattle.field.proofs.Spelt.{rising-spelt}
+use Rattle.field.proofs.Values.{between-range}
 use Rattle.field.proofs.Lists.{ascending-start, ascending-step, ascending-stop, ascending-done}
-use Rattle.plan.proofs.Filling.{Filling, filling-start, filling-step, filling-stop, filling-done}
+use Rattle.plan.proofs.Reading.{Filling, filling-start, filling-step, filling-stop, filling-done}
 use Rattle.plan.proofs.read_short.Statement.{statement}
 use Rattle.plan.proofs.read_short.Tie as tie
 
 abbrev Inv-loop : tie.InvT-loop
-Inv-loop s at m high out₀ n p₀ floor₀ i₀ out p floor i = Filling (ascending m 0 high s at) (ascending (m - i) floor high s p) out₀ out i × (i ≤ m)
+Inv-loop s at m high out₀ n p₀ floor₀ i₀ out p floor i =
+    Filling (ascending m 0 high s at) (ascending (m - i) floor high s p) out₀ out i × (i ≤ m)
 
 abbrev μ-loop : tie.MeasureT-loop
 μ-loop s at m high out₀ n p₀ floor₀ i₀ out p floor i = m - i
@@ -20,46 +21,24 @@ abbrev μ-loop : tie.MeasureT-loop
 loop-holds : tie.Need-loop-holds Inv-loop μ-loop
 loop-holds c = (filling-start _ (ascending-start _ _ _ _ _), omega arith)
 
-risen-requires : tie.Need-risen-requires Inv-loop μ-loop
-risen-requires c κs = search needs
-
-enum-known-v : tie.Need-enum-known-v Inv-loop μ-loop
-enum-known-v c = search needs
-
 cast-out : tie.Need-cast-out Inv-loop μ-loop
 unfolding Bytes
-cast-out c = omega (arith, rising-spelt _ _ _ _ (λ i. c .before .before .before .before .before .before .before .shared-slice-known .given i .fits) _ _ (told-got (c .before .before .before .risen .ensures) (c .before .v .given .1)) .1)
-
-mul-out : tie.Need-mul-out Inv-loop μ-loop
-mul-out c = search needs
-
-slice-write-out : tie.Need-slice-write-out Inv-loop μ-loop
-slice-write-out c = search needs
+cast-out c = omega (arith, between-range _ _ 8 6 _ _ (told-got (c .before .before .before .rising .ensures) (c .before .v .given .1)))
 
 add-floor : tie.Need-add-floor Inv-loop μ-loop
 unfolding Bytes
-add-floor c = omega (arith, rising-spelt _ _ _ _ (λ i. c .before .before .before .before .before .before .before .shared-slice-known .given i .fits) _ _ (told-got (c .before .before .before .risen .ensures) (c .before .v .given .1)) .1)
-
-enum-known-why : tie.Need-enum-known-why Inv-loop μ-loop
-enum-known-why c = search needs
-
-same-length : tie.Need-same-length Inv-loop μ-loop
-same-length c = search needs
+add-floor c = omega (arith, between-range _ _ 8 6 _ _ (told-got (c .before .before .before .rising .ensures) (c .before .v .given .1)))
 
 returns : tie.Need-returns Inv-loop μ-loop
-returns c = filling-stop (c .before .before .before .before .before .loop .inv .0) _ (ascending-stop _ _ _ _ _ _ _ (omega arith) (told-refused (c .before .before .before .risen .ensures) (c .before .why .given .1)))
-
-add-i : tie.Need-add-i Inv-loop μ-loop
-add-i c = search needs
-
-loop-less : tie.Need-loop-less Inv-loop μ-loop
-loop-less c = search needs
+returns c = filling-stop (c .before .before .before .before .before .loop .inv .0) _
+    (ascending-stop _ _ _ _ _ _ _ (omega arith) (told-refused (c .before .before .before .rising .ensures) (c .before .why .given .1)))
 
 loop-again : tie.Need-loop-again Inv-loop μ-loop
-loop-again c = (filling-step (c .before .before .before .before .before .loop .inv .0) _ (omega arith) (ascending-step _ _ _ _ _ _ _ (omega arith) (told-got (c .before .before .before .risen .ensures) (c .before .v .given .1))), omega arith)
-
-same-length-2 : tie.Need-same-length-2 Inv-loop μ-loop
-same-length-2 c = search needs
+loop-again c = (
+  filling-step (c .before .before .before .before .before .loop .inv .0) _ (omega arith)
+      (ascending-step _ _ _ _ _ _ _ (omega arith) (told-got (c .before .before .before .rising .ensures) (c .before .v .given .1))),
+  omega arith,
+)
 
 returns-2 : tie.Need-returns-2 Inv-loop μ-loop
 returns-2 c = filling-done (c .before .loop .inv .0) _ (omega arith) (ascending-done _ _ _ _ _ _ _ (omega arith))
@@ -71,17 +50,17 @@ read-short-spec =
     Inv-loop
     μ-loop
     loop-holds
-    risen-requires
-    enum-known-v
+    (λ c κs. search needs)
+    (λ c. search needs)
     cast-out
-    mul-out
-    slice-write-out
+    (λ c. search needs)
+    (λ c. search needs)
     add-floor
-    enum-known-why
-    same-length
+    (λ c. search needs)
+    (λ c. search needs)
     returns
-    add-i
-    loop-less
+    (λ c. search needs)
+    (λ c. search needs)
     loop-again
-    same-length-2
+    (λ c. search needs)
     returns-2)

@@ -1,8 +1,8 @@
--- `write`: counts above 1,024, a buffer that is too short, or four parts one behind another (`Adds`).
+-- `write`: counts above 1,024, a buffer that is too short, or four parts one behind another.
 use borrow.Author.Needs.{needs}
 use native.Mathlib.Omega.{arith}
-use Rattle.plan.proofs.Drafting.{many-disks, many-members, head-room, long-sent, sheet-sent}
-use Rattle.plan.proofs.Adding.{adds-put, adds-join}
+use Rattle.plan.specs.Plan.{planOf}
+use Rattle.plan.proofs.Writing.{many-disks, many-members, long-sent, heading-room, disks-room, short-room, sheet-sent}
 use Rattle.plan.proofs.write.Statement.{statement}
 use Rattle.plan.proofs.write.Tie as tie
 
@@ -13,14 +13,54 @@ returns-2 : tie.Need-returns-2
 returns-2 c = many-members _ _ _ _ (c .if2 .taken)
 
 returns-3 : tie.Need-returns-3
-returns-3 c = long-sent _ _ _ _ (c .before .before .before .if1 .left) (c .before .before .if2 .left) (omega (arith, c .before .sheet-width .ensures))
+returns-3 c = long-sent _ _ _ _ (c .before .before .before .if1 .left) (c .before .before .if2 .left)
+    (omega (arith, c .before .sheet-width .ensures))
 
-put-head-requires : tie.Need-put-head-requires
-put-head-requires c κs = let a = c .before .before .before .before .before .before .before .before .args in
-    head-room (a .unit) (a .tenancy) (record { time = a .time; disks = a .disks .now; short = a .short .now }) (a .out .now) (c .before .before .sheet-width .ensures) (c .before .if3 .left)
+put-heading-requires : tie.Need-put-heading-requires
+put-heading-requires c κs =
+    let sized = c .before .before in
+    let a = sized .before .before .before .before .before .before .args in
+    heading-room (a .unit) (a .tenancy) (planOf (a .time) (a .disks .now) (a .short .now)) (a .out .now)
+    (omega (arith, sized .sheet-width .ensures, c .before .if3 .left))
+
+put-disks-requires : tie.Need-put-disks-requires
+put-disks-requires c κs =
+    let sized = c .before .before .before .before .before .before in
+    let a = sized .before .before .before .before .before .before .args in
+    disks-room (a .unit) (a .tenancy) (planOf (a .time) (a .disks .now) (a .short .now)) (a .out .now)
+    (omega (arith, sized .sheet-width .ensures, c .before .before .before .before .before .if3 .left))
+    (c .before .before .before .put-heading .ensures)
+
+put-short-requires : tie.Need-put-short-requires
+put-short-requires c κs =
+    let sized = c .before .before .before .before .before .before .before .before .before .before .before .before .before .before in
+    let a = sized .before .before .before .before .before .before .args in
+    short-room (a .unit) (a .tenancy) (planOf (a .time) (a .disks .now) (a .short .now)) (a .out .now)
+    (omega (
+      arith,
+      sized .sheet-width .ensures,
+      c .before .before .before .before .before .before .before .before .before .before .before .before .before .if3 .left,
+    ))
+    (c .before .before .before .before .before .before .before .before .before .before .before .put-heading .ensures)
+    (c .before .before .before .before .before .before .before .put-disks .ensures) (c .before .before .before .put .ensures)
 
 returns-4 : tie.Need-returns-4
-returns-4 c = sheet-sent _ _ _ _ (c .before .before .before .before .before .before .before .before .before .before .before .before .before .before .before .before .before .before .before .if1 .left) (c .before .before .before .before .before .before .before .before .before .before .before .before .before .before .before .before .before .before .if2 .left) (omega (arith, c .before .before .before .before .before .before .before .before .before .before .before .before .before .before .before .before .before .sheet-width .ensures, c .before .before .before .before .before .before .before .before .before .before .before .before .before .before .before .before .if3 .left)) (adds-join (adds-put (adds-join (c .before .before .before .before .before .before .before .before .before .before .before .before .before .before .put-head .ensures) (c .before .before .before .before .before .before .before .before .before .before .put-disks .ensures)) (c .before .before .before .before .before .before .put .ensures)) (c .before .before .put-short .ensures))
+returns-4 c =
+    let sized = c .before .before .before .before .before .before .before .before .before .before .before .before .before .before
+    .before .before .before in
+    let a = sized .before .before .before .before .before .before .args in
+    sheet-sent (a .unit) (a .tenancy) (planOf (a .time) (a .disks .now) (a .short .now)) (a .out .now)
+    (omega (
+      arith,
+      sized .sheet-width .ensures,
+      c .before .before .before .before .before .before .before .before .before .before .before
+          .before .before .before .before .before .if3 .left,
+    ))
+    (c .before .before .before .before .before .before .before .before .before .before .before .before .before
+    .before .put-heading .ensures)
+    (c .before .before .before .before .before .before .before .before .before .before .put-disks .ensures)
+    (c .before .before .before .before .before .before .put .ensures)
+    (sized .before .before .if1 .left) (sized .before .if2 .left) (c .before .before .put-short .ensures)
 
 pub write-spec : {M : Type 1} → statement M
 write-spec =
@@ -31,10 +71,10 @@ write-spec =
     (λ c κs. search needs)
     returns-3
     (λ c. search needs)
-    put-head-requires
-    (λ c κs. search needs)
+    put-heading-requires
+    put-disks-requires
     (λ c. search needs)
     (λ c κs. search needs)
-    (λ c κs. search needs)
+    put-short-requires
     (λ c. search needs)
     returns-4)

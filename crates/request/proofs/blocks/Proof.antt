@@ -1,7 +1,7 @@
--- `blocks` meets its contract. The invariant is `Filled`: the first i blocks stand in the first i places, and the others are 0.
+-- `blocks` meets its contract. The invariant is `Filling`: the first i blocks stand in the first i places, and the others are 0.
 use borrow.Author.Needs.{needs}
 use native.Mathlib.Omega.{arith}
-use Rattle.request.proofs.Reading.{Filled, filled-start, filled-step, filled-stop, filled-extra, filled-done, answered-of}
+use Rattle.request.proofs.Reading.{Filling, filling-start, filling-step, filling-stop, filling-extra, filling-done, answered-of}
 use Rattle.request.proofs.Reading.{copies-got, copies-refused}
 use Rattle.field.proofs.Readers.{told-got, told-refused}
 use mathlib.Core.Path.{refl}
@@ -10,13 +10,13 @@ use Rattle.request.proofs.blocks.Statement.{statement}
 use Rattle.request.proofs.blocks.Tie as tie
 
 abbrev Inv-loop : tie.InvT-loop
-Inv-loop s at q high copies₀ p₀ i₀ copies p i = Filled q high s at copies p i
+Inv-loop s at q high copies₀ p₀ i₀ copies p i = Filling q high s at copies p i
 
 abbrev μ-loop : tie.MeasureT-loop
 μ-loop s at q high copies₀ p₀ i₀ copies p i = q - i
 
 loop-holds : tie.Need-loop-holds Inv-loop μ-loop
-loop-holds c = filled-start _ _ _ _
+loop-holds c = filling-start _ _ _ _
 
 one-block-requires : tie.Need-one-block-requires Inv-loop μ-loop
 one-block-requires c κs = c .before .before .before .pre .1
@@ -31,7 +31,7 @@ array-write-copies c =
 
 returns : tie.Need-returns Inv-loop μ-loop
 returns c = answered-of
-    (filled-stop _ _ _ _ _ _ _ (c .before .before .before .before .before .before .loop .inv)
+    (filling-stop _ _ _ _ _ _ _ (c .before .before .before .before .before .before .loop .inv)
     (c .before .before .before .before .before .loop-test .taken)
     (copies-refused (c .before .before .before .before .one-block .ensures) (c .before .before .e .given .1))) (c .refuse .ensures _)
 
@@ -39,28 +39,24 @@ add-i : tie.Need-add-i Inv-loop μ-loop
 add-i c = omega (
   arith,
   c .before .before .before .before .loop-test .taken,
-  c .before .before .before .before .before
-      .before .before .pre .0,
+  c .before .before .before .before .before .before .before .pre .0,
 )
 
 loop-again : tie.Need-loop-again Inv-loop μ-loop
-loop-again c = filled-step _ _ _ _ _ _ _ (c .before .before .before .before .before .loop .inv)
+loop-again c = filling-step _ _ _ _ _ _ _ (c .before .before .before .before .before .loop .inv)
     (c .before .before .before .before .loop-test .taken) (c .before .before .before .before .before .before .before .pre .0)
     (copies-got (c .before .before .before .one-block .ensures) (c .before .m .given .1))
 
-enum-told : tie.Need-enum-told Inv-loop μ-loop
-enum-told c = search needs
-
 returns-2 : tie.Need-returns-2 Inv-loop μ-loop
-returns-2 c = filled-done _ _ _ _ _ _ _ (c .before .before .before .before .loop .inv) _ refl refl
+returns-2 c = filling-done _ _ _ _ _ _ _ (c .before .before .before .before .loop .inv) _ refl refl
     (c .before .before .before .loop-test .left) (c .before .before .before .before .before .before .pre .0)
-    (told-got (c .before .before .finish .ensures) (c .enum-told .given .1))
+    (told-got (c .before .before .end .ensures) (c .enum-told .given .1))
 
 returns-3 : tie.Need-returns-3 Inv-loop μ-loop
 returns-3 c = answered-of
-    (filled-extra _ _ _ _ _ _ _ (c .before .before .before .before .before .before .loop .inv)
+    (filling-extra _ _ _ _ _ _ _ (c .before .before .before .before .before .before .loop .inv)
     (c .before .before .before .before .before .loop-test .left)
-    (told-refused (c .before .before .before .before .finish .ensures) (c .before .before .e2 .given .1))) (c .refuse2 .ensures _)
+    (told-refused (c .before .before .before .before .end .ensures) (c .before .before .e2 .given .1))) (c .refuse2 .ensures _)
 
 pub blocks-spec : {M : Type 1} → statement M
 blocks-spec =
@@ -80,7 +76,7 @@ blocks-spec =
     (λ c. search needs)
     loop-again
     (λ c κs. search needs)
-    enum-told
+    (λ c. search needs)
     (λ c. search needs)
     (λ c κs. search needs)
     returns-2

@@ -1,11 +1,9 @@
 -- `gather`: the loop over the disks of a block.
 use borrow.Author.Needs.{needs}
-use native.Mathlib.Omega.{arith}
 use mathlib.Core.Path.{_∙_}
-use Rattle.field.specs.Refusal.{numberOf}
-use Rattle.request.specs.Told.{toldCopies}
-use Rattle.request.proofs.Gathering.{Gathering, gathering-start, gathering-ends, gathering-stop, gathering-low, gathering-step}
-use Rattle.request.proofs.Gathering.{gathering-done}
+use Rattle.request.specs.Parts.{toldCopies}
+use Rattle.request.proofs.Reading.{Gathering, gathering-start, gathering-ends, gathering-stop, gathering-low, gathering-step}
+use Rattle.request.proofs.Reading.{gathering-done}
 use Rattle.request.proofs.gather.Statement.{statement}
 use Rattle.request.proofs.gather.Tie as tie
 
@@ -16,7 +14,7 @@ abbrev μ-loop : tie.MeasureT-loop
 μ-loop s at k high m₀ floor₀ p₀ left₀ m floor p left = left
 
 returns : tie.Need-returns Inv-loop μ-loop
-unfolding toldCopies numberOf
+unfolding toldCopies
 returns c = gathering-ends (c .before .before .loop .inv) (c .before .loop-test .taken) (c .if1 .taken)
 
 returns-2 : tie.Need-returns-2 Inv-loop μ-loop
@@ -26,7 +24,7 @@ returns-2 c =
     ∙ gathering-stop (l .loop .inv) (c .before .before .before .before .before .loop-test .taken) (c .not-disk .ensures .stops _)
 
 returns-3 : tie.Need-returns-3 Inv-loop μ-loop
-unfolding toldCopies numberOf
+unfolding toldCopies
 returns-3 c =
     let l = c .before .before .before .before .before .before in
     gathering-low (l .loop .inv) (l .before .before .pre) (c .before .before .before .before .if1 .left) (c .before .before .wide .ensures)
@@ -37,7 +35,7 @@ loop-again c =
     let l = c .before .before .before .before .before .before .before in
     gathering-step (l .loop .inv) (l .before .before .pre) (c .before .before .before .before .before .if1 .left)
     (c .before .before .before .wide .ensures) (c .before .before .if2 .left)
-    (c .before .before .before .before .before .before .loop-test .taken) (c .before .if3 .left) (c .set .ok) (c .set .ensures)
+    (c .before .before .before .before .before .before .loop-test .taken) (c .before .if3 .left) (c .put .ok) (c .put .ensures)
 
 returns-4 : tie.Need-returns-4 Inv-loop μ-loop
 unfolding toldCopies

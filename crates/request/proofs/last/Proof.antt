@@ -16,4 +16,4 @@ returns-3 : tie.Need-returns-3
 returns-3 c = sym (last-few _ (omega arith))
 
 pub last-spec : {M : Type 1} → statement M
-last-spec = tie.close (tie.spec returns returns-2 (λ c. search needs) returns-3)
+last-spec = tie.close (tie.spec (λ c. search needs) (λ c. search needs) returns returns-2 (λ c. search needs) returns-3)

@@ -11,7 +11,8 @@ use Rattle.request.proofs.put_blocks.Statement.{statement}
 use Rattle.request.proofs.put_blocks.Tie as tie
 
 abbrev Inv-loop : tie.InvT-loop
-Inv-loop copies out₀ at p₀ i₀ out p i = (i ≤ length copies) × (at + length (spellAll blockBytes copies) ≤ length out₀) × Laid out₀ at (spellAll blockBytes (take i copies)) out p
+Inv-loop copies out₀ at p₀ i₀ out p i = (i ≤ length copies) × (at + length (spellAll blockBytes copies) ≤ length out₀)
+    × Laid out₀ at (spellAll blockBytes (take i copies)) out p
 
 abbrev μ-loop : tie.MeasureT-loop
 μ-loop copies out₀ at p₀ i₀ out p i = length copies - i
@@ -20,12 +21,6 @@ loop-holds : tie.Need-loop-holds Inv-loop μ-loop
 unfolding spellAll
 loop-holds c = (omega arith, c .before .before .pre, laid-none _ _ (omega (arith, c .before .before .pre)))
 
-mul-put-block : tie.Need-mul-put-block Inv-loop μ-loop
-mul-put-block c = search needs
-
-shared-slice-read-put-block : tie.Need-shared-slice-read-put-block Inv-loop μ-loop
-shared-slice-read-put-block c = search needs
-
 put-block-requires : tie.Need-put-block-requires Inv-loop μ-loop
 put-block-requires c κs = spell-room blockBytes _ _ 0 (c .before .before .loop-test .taken) (c .before .before .before .loop .inv .2)
     (c .before .before .before .loop .inv .1)
@@ -33,8 +28,7 @@ put-block-requires c κs = spell-room blockBytes _ _ 0 (c .before .before .loop-
 loop-again : tie.Need-loop-again Inv-loop μ-loop
 loop-again c = (
   omega (arith, c .before .before .before .before .before .loop-test .taken),
-  c .before .before .before .before .before
-      .before .loop .inv .1,
+  c .before .before .before .before .before .before .loop .inv .1,
   blocks-more _ _ (c .before .before .before .before .before .loop-test .taken)
       (c .before .before .before .before .before .before .loop .inv .2) (c .before .before .put-block .ensures),
 )

@@ -1,26 +1,25 @@
 -- `read` meets its contract: the heading, and then the blocks or its refusal.
 use borrow.Author.Needs.{needs}
 use native.Mathlib.Omega.{arith}
-use Rattle.request.proofs.Reading.{last-le, heading-within, sheet-stops, answered-of, answered-sheet}
+use Rattle.request.proofs.Reading.{last-under, heading-within, sheet-stops, answered-of, answered-sheet}
 use Rattle.field.proofs.Readers.{told-got, told-refused}
 use Rattle.request.proofs.read.Statement.{statement}
 use Rattle.request.proofs.read.Tie as tie
 
 blocks-requires : tie.Need-blocks-requires
 blocks-requires c κs = (
-  heading-within _ _ _ _ (told-got (c .before .before .before .before .opening .ensures) (c .before .before .q .given .1)),
-  omega
-      (arith, c .last .ensures, last-le (c .before .before .before .before .before .before .args .disks)),
+  heading-within _ _ _ _ (told-got (c .before .before .before .before .heading .ensures) (c .before .before .q .given .1)),
+  omega (arith, c .last .ensures, last-under (c .before .before .before .before .before .before .args .disks)),
 )
 
 returns : tie.Need-returns
 returns c = answered-sheet _ _ _ _
-    (told-got (c .before .before .before .before .before .opening .ensures) (c .before .before .before .q .given .1))
+    (told-got (c .before .before .before .before .before .heading .ensures) (c .before .before .before .q .given .1))
     (c .before .last .ensures) (c .blocks2 .ensures)
 
 returns-2 : tie.Need-returns-2
 returns-2 c = answered-of
-    (sheet-stops _ _ _ _ (told-refused (c .before .before .before .before .opening .ensures) (c .before .before .e .given .1)))
+    (sheet-stops _ _ _ _ (told-refused (c .before .before .before .before .heading .ensures) (c .before .before .e .given .1)))
     (c .refuse .ensures _)
 
 pub read-spec : {M : Type 1} → statement M

@@ -1,7 +1,7 @@
--- `send` meets its contract: the length is added up first, so that 11 has changed nothing; then the heading and the blocks, one behind the other.
+-- `send` meets its contract: the length is added up first, so that 11 has changed nothing; then heading and blocks are put.
 use borrow.Author.Needs.{needs}
 use native.Mathlib.Omega.{arith}
-use Rattle.request.proofs.Drafting.{request-length, heading-room, blocks-room, request-sent}
+use Rattle.request.proofs.Writing.{request-length, heading-room, blocks-room, request-sent}
 use Rattle.request.specs.Draft.{requestBytes}
 use Rattle.field.proofs.Sends.{sent-long}
 use Rattle.number.proofs.Encode.{width-bounds}

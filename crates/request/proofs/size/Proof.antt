@@ -2,14 +2,14 @@
 use borrow.Author.Needs.{needs}
 use native.Mathlib.Omega.{arith}
 use Rattle.mask.specs.Count.{members}
-use Rattle.request.proofs.Sizing.{known-in, known-out, Counting, counting-start, counting-step, counting-done, counting-none}
-use Rattle.request.proofs.Sizing.{counting-many, counting-high}
-use Rattle.request.specs.Draft.{Sized}
-use Rattle.field.specs.Refusal.{numberOf}
+use Rattle.request.proofs.Writing.{known-in, known-out, Counting, counting-start, counting-step, counting-done, counting-none}
+use Rattle.request.proofs.Writing.{counting-many, counting-high}
+use Rattle.request.specs.Parts.{Sized}
 use lib.ListN.{length, getD}
 use mathlib.Core.Path.{refl}
 use Prim.Native.Nat.{_-_, _^_, _≤_, _<_}
 use Rattle.request.proofs.size.Statement.{statement}
+use Rattle.basics.specs.Limits.{disksMost, copiesMost}
 use Rattle.request.proofs.size.Tie as tie
 
 abbrev Inv-loop : tie.InvT-loop
@@ -22,22 +22,23 @@ loop-holds : tie.Need-loop-holds Inv-loop μ-loop
 loop-holds c = counting-start _ _
 
 returns : tie.Need-returns Inv-loop μ-loop
-unfolding Sized numberOf
+unfolding Sized
 returns c = counting-none _ _ _ _ (c .before .before .before .loop .inv) (c .before .before .loop-test .taken) _ refl (c .if1 .taken)
 
 returns-2 : tie.Need-returns-2 Inv-loop μ-loop
-unfolding Sized numberOf
+unfolding Sized
 returns-2 c = counting-many _ _ _ _ (c .before .before .before .before .before .loop .inv)
     (c .before .before .before .before .loop-test .taken) _ refl (c .before .before .if1 .left)
     (omega (arith, c .before .count .ensures, c .if2 .taken))
 
 returns-3 : tie.Need-returns-3 Inv-loop μ-loop
-unfolding Sized numberOf
+unfolding Sized
 returns-3 c = let turn = c .before .before .before .before .before .before in
     let i = turn .before .loop .i in
     let ms = turn .before .before .before .before .args .copies .now in
     let fits : getD ms i 0 < 2 ^ 64 = omega (arith, c .before .before .before .before .before .shared-slice-known2 .given i) in
-    let few : members 64 (getD ms i 0) ≤ 8 = omega (arith, c .before .before .before .count .ensures, c .before .before .if2 .left) in
+    let few : members disksMost (getD ms i 0) ≤ copiesMost =
+    omega (arith, c .before .before .before .count .ensures, c .before .before .if2 .left) in
     let high = known-out _ _ _ _ (turn .before .before .before .before .pre .0) (turn .before .before .below .ensures) fits
     (c .before .without .ensures) (c .before .without .ok) (c .if3 .taken) in
     counting-high _ _ _ _ (turn .before .loop .inv) (turn .loop-test .taken) _ refl (c .before .before .before .before .if1 .left) few high
@@ -50,8 +51,7 @@ add-total-2 c = omega (
   arith,
   c .before .before .if2 .left,
   c .before .before .before .before .before .before .before .loop .inv .small,
-  c .before .before
-      .before .before .before .before .before .before .before .before .pre .1,
+  c .before .before .before .before .before .before .before .before .before .before .pre .1,
 )
 
 loop-again : tie.Need-loop-again Inv-loop μ-loop
@@ -59,7 +59,8 @@ loop-again c = let turn = c .before .before .before .before .before .before in
     let i = turn .before .loop .i in
     let ms = turn .before .before .before .before .args .copies .now in
     let fits : getD ms i 0 < 2 ^ 64 = omega (arith, c .before .before .before .before .before .shared-slice-known2 .given i) in
-    let few : members 64 (getD ms i 0) ≤ 8 = omega (arith, c .before .before .before .count .ensures, c .before .before .if2 .left) in
+    let few : members disksMost (getD ms i 0) ≤ copiesMost =
+    omega (arith, c .before .before .before .count .ensures, c .before .before .if2 .left) in
     let under = known-in _ _ _ _ (turn .before .before .before .before .pre .0) (turn .before .before .below .ensures) fits
     (c .before .without .ensures) (c .if3 .left) in
     counting-step _ _ _ _ (turn .before .loop .inv) (turn .loop-test .taken) _ refl (c .before .before .before .before .if1 .left) few _

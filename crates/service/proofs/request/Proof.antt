@@ -1,8 +1,8 @@
 -- `request`: the plan sheet stands in the lent part of the buffer, or is longer than it.
 use borrow.Author.Needs.{needs}
 use native.Mathlib.Omega.{arith}
-use Rattle.unit.proofs.Within.{answered-within}
-use Rattle.service.proofs.Serving.{part-within, request-sent, request-kept}
+use Rattle.unit.proofs.Replies.{replied-within}
+use Rattle.service.proofs.Serving.{part-within, lent, request-sent, request-kept}
 use lib.Seq.{length-take-le}
 use mathlib.Core.Path.{sym}
 use Rattle.service.proofs.request.Statement.{statement}
@@ -15,16 +15,30 @@ request-requires : tie.Need-request-requires
 request-requires c κs = c .before .before .pre .0
 
 array-share-prefix-out : tie.Need-array-share-prefix-out
-array-share-prefix-out c = part-within (c .before .before .before .before .request .last .1 .1 .0) _ (omega (arith, answered-within _ _ _ _ _ (c .before .before .before .before .request .ensures) _ (c .before .answer .given .1)))
+array-share-prefix-out c =
+    part-within (c .before .before .before .before .request .last .1 .1 .0) _
+    (omega (arith, replied-within (c .before .before .before .before .request .ensures) (c .before .answer .given .1)))
 
 slice-aggregate-sheet-line : tie.Need-slice-aggregate-sheet-line
-slice-aggregate-sheet-line c = sym (length-take-le _ _ (part-within (c .before .before .before .before .before .request .last .1 .1 .0) _ (omega (arith, answered-within _ _ _ _ _ (c .before .before .before .before .before .request .ensures) _ (c .before .before .answer .given .1)))))
+slice-aggregate-sheet-line c =
+    sym (length-take-le _ _
+    (part-within (c .before .before .before .before .before .request .last .1 .1 .0) _
+    (omega (
+      arith,
+      replied-within (c .before .before .before .before .before .request .ensures)
+          (c .before .before .answer .given .1),
+    ))))
 
 returns : tie.Need-returns
-returns c = request-sent _ _ _ (length-take-le _ _ (omega arith)) _ _ (c .before .before .before .before .before .before .before .request .last .1 .1 .0) (c .before .before .before .before .before .before .before .request .ensures) _ (c .before .before .before .before .answer .given .1) _ (omega arith) (c .sheet-line .ensures)
+returns c = request-sent _ _ _ _ (lent _ _ (c .before .before .before .before .before .before .before .before .before .before .pre .1)) _
+    (c .before .before .before .before .before .before .before .request .last .1 .1 .0)
+    (c .before .before .before .before .before .before .before .request .ensures) _ (c .before .before .before .before .answer .given .1) _
+    (omega arith) (c .sheet-line .ensures)
 
 returns-2 : tie.Need-returns-2
-returns-2 c = request-kept _ _ _ (length-take-le _ _ (omega arith)) _ _ _ (c .before .before .before .before .before .before .request .ensures) _ (c .before .before .before .answer2 .given .1) (c .refuse .ensures)
+returns-2 c = request-kept _ _ _ _ (lent _ _ (c .before .before .before .before .before .before .before .before .before .pre .1)) _ _
+    (c .before .before .before .before .before .before .request .ensures) _
+    (c .before .before .before .answer2 .given .1) (c .refuse .ensures)
 
 pub request-spec : {M : Type 1} → statement M
 request-spec =

@@ -1,72 +1,17 @@
--- `serve`: one law for each call, whose sheet lies within the bytes.
+-- `serve`: a call, once the unit's number was read.
 use borrow.Author.Needs.{needs}
-use native.Mathlib.Omega.{arith}
-use Rattle.service.proofs.Serving.{served-rent, served-set, served-request, served-return, served-stop, held-settings, held-request}
+use Rattle.service.proofs.Serving.{turned-same, due-when}
 use Rattle.service.proofs.serve.Statement.{statement}
 use Rattle.service.proofs.serve.Tie as tie
 
-sub-settings : tie.Need-sub-settings
-sub-settings c = omega (arith, held-settings (c .before .before .before .read-call .ensures) _ _ (c .before .from .given .1) .order)
-
-part-settings-start : tie.Need-part-settings-start
-part-settings-start c = held-settings (c .before .before .before .read-call .ensures) _ _ (c .before .from .given .1) .order
-
-part-settings-end : tie.Need-part-settings-end
-part-settings-end c = held-settings (c .before .before .before .read-call .ensures) _ _ (c .before .from .given .1) .end
-
-sub-request : tie.Need-sub-request
-sub-request c = omega (arith, held-request (c .before .before .before .read-call .ensures) _ _ _ (c .before .room .given .1) .0 .order)
-
-part-request-start : tie.Need-part-request-start
-part-request-start c = held-request (c .before .before .before .read-call .ensures) _ _ _ (c .before .room .given .1) .0 .order
-
-part-request-end : tie.Need-part-request-end
-part-request-end c = held-request (c .before .before .before .read-call .ensures) _ _ _ (c .before .room .given .1) .0 .end
-
-request-requires : tie.Need-request-requires
-request-requires c κs = (c .before .before .before .before .before .before .before .pre, held-request (c .before .before .before .before .before .read-call .ensures) _ _ _ (c .before .before .before .room .given .1) .1)
+call-requires : tie.Need-call-requires
+call-requires c κs = (c .before .before .before .pre, c .before .if1 .taken)
 
 returns : tie.Need-returns
-returns c = served-rent (c .before .before .before .before .before .before .read-call .ensures) (c .before .before .rent .result) _ _ (c .before .before .before .before .t .given .1) (c .before .before .rent .ensures) (c .finish .ensures)
+returns c = turned-same (due-when _ (c .before .before .if1 .taken)) (c .call .ensures)
 
 returns-2 : tie.Need-returns-2
-returns-2 c = served-set (c .before .before .before .before .before .before .before .read-call .ensures) (c .before .before .settings .result) _ _ (c .before .before .before .before .before .from .given .1) (c .before .before .settings .ensures) (c .finish2 .ensures)
-
-returns-3 : tie.Need-returns-3
-returns-3 c = served-request (c .before .before .before .before .before .before .read-call .ensures) _ _ _ (c .before .before .before .before .room .given .1) (c .request .ensures)
-
-returns-4 : tie.Need-returns-4
-returns-4 c = served-return (c .before .before .before .before .before .before .read-call .ensures) (c .before .before .give-back .result) _ _ (c .before .before .before .before .t2 .given .1) (c .before .before .give-back .ensures) (c .finish3 .ensures)
-
-returns-5 : tie.Need-returns-5
-returns-5 c = served-stop (c .before .before .before .before .before .read-call .ensures) _ (c .before .before .before .e .given .1) (c .stop .ensures)
+returns-2 c = turned-same (due-when _ (c .before .before .if1 .left)) (c .open .ensures)
 
 pub serve-spec : {M : Type 1} → statement M
-serve-spec =
-    tie.close
-    (tie.spec
-    (λ c κs. search needs)
-    (λ c. search needs)
-    (λ c κs. search needs)
-    (λ c κs. search needs)
-    (λ c. search needs)
-    sub-settings
-    part-settings-start
-    part-settings-end
-    (λ c κs. search needs)
-    (λ c κs. search needs)
-    (λ c. search needs)
-    sub-request
-    part-request-start
-    part-request-end
-    request-requires
-    (λ c. search needs)
-    (λ c κs. search needs)
-    (λ c κs. search needs)
-    (λ c. search needs)
-    (λ c κs. search needs)
-    returns
-    returns-2
-    returns-3
-    returns-4
-    returns-5)
+serve-spec = tie.close (tie.spec call-requires (λ c κs. search needs) returns returns-2)

@@ -15,44 +15,25 @@ Inv-loop costs loads delays out₀ start at₀ i₀ out at i = RowsPut (rowsOf c
 abbrev μ-loop : tie.MeasureT-loop
 μ-loop costs loads delays out₀ start at₀ i₀ out at i = length costs - i
 
-loop-holds : tie.Need-loop-holds Inv-loop μ-loop
-loop-holds c = puts-start _ _ _ (c .before .before .before .before .pre .1)
-
-mul-put-row : tie.Need-mul-put-row Inv-loop μ-loop
-mul-put-row c = search needs
-
-shared-slice-read-put-row : tie.Need-shared-slice-read-put-row Inv-loop μ-loop
-shared-slice-read-put-row c = search needs
-
-mul-put-row-2 : tie.Need-mul-put-row-2 Inv-loop μ-loop
-mul-put-row-2 c = search needs
-
-shared-slice-read-put-row-2 : tie.Need-shared-slice-read-put-row-2 Inv-loop μ-loop
-shared-slice-read-put-row-2 c = search needs
-
-mul-put-row-3 : tie.Need-mul-put-row-3 Inv-loop μ-loop
-mul-put-row-3 c = search needs
-
-shared-slice-read-put-row-3 : tie.Need-shared-slice-read-put-row-3 Inv-loop μ-loop
-shared-slice-read-put-row-3 c = search needs
-
 put-row-requires : tie.Need-put-row-requires Inv-loop μ-loop
-put-row-requires c κs = puts-room (c .before .before .before .before .before .loop .inv) (rows-below _ _ _ (c .before .before .before .before .before .before .before .before .before .before .pre .0 .0) (c .before .before .before .before .before .before .before .before .before .before .pre .0 .1) (c .before .before .before .before .loop-test .taken)) (row-of _ _ _ _ (c .before .before .before .before .before .before .before .before .before .before .pre .0 .0) (c .before .before .before .before .before .before .before .before .before .before .pre .0 .1) (c .before .before .before .before .loop-test .taken)) (c .before .before .before .before .before .before .before .before .before .before .pre .1)
-
-add-i : tie.Need-add-i Inv-loop μ-loop
-add-i c = search needs
-
-loop-less : tie.Need-loop-less Inv-loop μ-loop
-loop-less c = search needs
+put-row-requires c κs =
+    let turn = c .before .before .before .before in
+    let start = turn .before .before .before .before .before .before .pre in
+    let fit = start .0 in
+    puts-room (turn .before .loop .inv) (rows-below _ _ _ (fit .0) (fit .1) (turn .loop-test .taken))
+    (row-of _ _ _ _ (fit .0) (fit .1) (turn .loop-test .taken)) (start .1)
 
 loop-again : tie.Need-loop-again Inv-loop μ-loop
-loop-again c = puts-step (c .before .before .before .before .before .before .before .before .loop .inv) (rows-below _ _ _ (c .before .before .before .before .before .before .before .before .before .before .before .before .before .pre .0 .0) (c .before .before .before .before .before .before .before .before .before .before .before .before .before .pre .0 .1) (c .before .before .before .before .before .before .before .loop-test .taken)) (row-of _ _ _ _ (c .before .before .before .before .before .before .before .before .before .before .before .before .before .pre .0 .0) (c .before .before .before .before .before .before .before .before .before .before .before .before .before .pre .0 .1) (c .before .before .before .before .before .before .before .loop-test .taken)) (c .before .before .put-row .ensures)
-
-same-length : tie.Need-same-length Inv-loop μ-loop
-same-length c = laid-length (c .before .loop .inv .done)
+loop-again c =
+    let turn = c .before .before .before .before .before .before .before in
+    let fit = turn .before .before .before .before .before .before .pre .0 in
+    puts-step (turn .before .loop .inv) (rows-below _ _ _ (fit .0) (fit .1) (turn .loop-test .taken))
+    (row-of _ _ _ _ (fit .0) (fit .1) (turn .loop-test .taken)) (c .before .before .put-row .ensures)
 
 returns : tie.Need-returns Inv-loop μ-loop
-returns c = puts-done (c .before .loop .inv) (rows-end _ _ _ (c .before .before .before .before .before .before .pre .0 .0) (c .before .before .before .before .before .before .pre .0 .1) (c .loop-test .left))
+returns c =
+    let fit = c .before .before .before .before .before .before .pre .0 in
+    puts-done (c .before .loop .inv) (rows-end _ _ _ (fit .0) (fit .1) (c .loop-test .left))
 
 pub put-rows-spec : {M : Type 1} → statement M
 put-rows-spec =
@@ -60,16 +41,16 @@ put-rows-spec =
     (tie.spec
     Inv-loop
     μ-loop
-    loop-holds
-    mul-put-row
-    shared-slice-read-put-row
-    mul-put-row-2
-    shared-slice-read-put-row-2
-    mul-put-row-3
-    shared-slice-read-put-row-3
+    (λ c. puts-start _ _ _ (c .before .before .before .before .pre .1))
+    (λ c. search needs)
+    (λ c. search needs)
+    (λ c. search needs)
+    (λ c. search needs)
+    (λ c. search needs)
+    (λ c. search needs)
     put-row-requires
-    add-i
-    loop-less
+    (λ c. search needs)
+    (λ c. search needs)
     loop-again
-    same-length
+    (λ c. laid-length (c .before .loop .inv .done))
     returns)

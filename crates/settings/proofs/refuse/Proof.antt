@@ -3,7 +3,7 @@ use mathlib.Core.Path.{ap}
 use borrow.Author.Needs.{needs}
 use Rattle.settings.specs.Parts.{refusedWith}
 use Rattle.settings.specs.declared.Table.{Table}
-use Rattle.settings.specs.declared.Answer.the-variants.{Refused}
+use Rattle.field.specs.declared.Verdict.the-variants.{Refused}
 use Rattle.settings.proofs.refuse.Statement.{statement}
 use Rattle.settings.proofs.refuse.Tie as tie
 

@@ -9,19 +9,38 @@ use Rattle.settings.proofs.row_at.Tie as tie
 
 returns : tie.Need-returns
 unfolding toldRow
-returns c = sym (row-got _ _ (told-got (c .before .before .before .before .before .before .before .before .before .before .before .ranged .ensures) (c .before .before .before .before .before .before .before .before .before .cost .given .1)) (told-got (c .before .before .before .before .before .before .before .ranged2 .ensures) (c .before .before .before .before .before .load .given .1)) (told-got (c .before .before .before .ranged3 .ensures) (c .before .delay .given .1)))
+returns c =
+    let third = c .before .before .before in
+    let second = third .before .before .before .before in
+    let first = second .before .before .before .before in
+    sym (row-got _ _
+    (told-got (first .inside .ensures) (second .before .before .cost .given .1))
+    (told-got (second .inside2 .ensures) (third .before .before .load .given .1))
+    (told-got (third .inside3 .ensures) (c .before .delay .given .1)))
 
 returns-2 : tie.Need-returns-2
 unfolding toldRow
-returns-2 c = sym (row-third _ _ (told-got (c .before .before .before .before .before .before .before .before .before .before .before .ranged .ensures) (c .before .before .before .before .before .before .before .before .before .cost .given .1)) (told-got (c .before .before .before .before .before .before .before .ranged2 .ensures) (c .before .before .before .before .before .load .given .1)) (told-refused (c .before .before .before .ranged3 .ensures) (c .before .e .given .1)))
+returns-2 c =
+    let third = c .before .before .before in
+    let second = third .before .before .before .before in
+    let first = second .before .before .before .before in
+    sym (row-third _ _
+    (told-got (first .inside .ensures) (second .before .before .cost .given .1))
+    (told-got (second .inside2 .ensures) (third .before .before .load .given .1))
+    (told-refused (third .inside3 .ensures) (c .before .e .given .1)))
 
 returns-3 : tie.Need-returns-3
 unfolding toldRow
-returns-3 c = sym (row-second _ _ (told-got (c .before .before .before .before .before .before .before .ranged .ensures) (c .before .before .before .before .before .cost .given .1)) (told-refused (c .before .before .before .ranged2 .ensures) (c .before .e2 .given .1)))
+returns-3 c =
+    let second = c .before .before .before in
+    let first = second .before .before .before .before in
+    sym (row-second _ _
+    (told-got (first .inside .ensures) (second .before .before .cost .given .1))
+    (told-refused (second .inside2 .ensures) (c .before .e2 .given .1)))
 
 returns-4 : tie.Need-returns-4
 unfolding toldRow
-returns-4 c = sym (row-first _ _ (told-refused (c .before .before .before .ranged .ensures) (c .before .e3 .given .1)))
+returns-4 c = sym (row-first _ _ (told-refused (c .before .before .before .inside .ensures) (c .before .e3 .given .1)))
 
 pub row-at-spec : {M : Type 1} → statement M
 row-at-spec =

@@ -1,27 +1,85 @@
--- `settings::write`: no draft, a draft that is too long, and one that is written: the heading, then the rows behind it.
+-- `settings::write`: lists that don't fit, rows out of range, a sheet that is too long, and one that is written.
+use mathlib.Core.Path.{sym, _∙_}
 use native.Mathlib.Omega.{arith}
 use borrow.Author.Needs.{needs}
-use Rattle.settings.proofs.Writing.{write-none, write-long, write-sheet, head-room, rows-room, write-done}
+use borrow.Author.Tests.{not-true, not-false}
+use Rattle.number.proofs.Encode.{width-bounds}
+use Rattle.settings.proofs.Rows.{rows-small}
+use Rattle.settings.proofs.Writing.{lists-fit, write-unfit, write-out, write-long, heading-room, rows-room, write-done}
 use Rattle.settings.proofs.write.Statement.{statement}
 use Rattle.settings.proofs.write.Tie as tie
 
 returns : tie.Need-returns
-returns c = write-none _ _ _ _ _ (c .before .sheet-width .ensures) _ (c .if1 .taken)
+returns c = write-unfit _ _ _ _ _ _ (sym (c .before .lists-fit .ensures) ∙ not-true _ (c .if1 .taken))
+
+rows-width-requires : tie.Need-rows-width-requires
+rows-width-requires c κs =
+    let fit = lists-fit (sym (c .before .lists-fit .ensures) ∙ not-false _ (c .if1 .left)) in ((fit .loads, fit .delays), fit .few)
 
 returns-2 : tie.Need-returns-2
-returns-2 c = write-long _ _ _ _ _ (c .before .before .sheet-width .ensures) (c .before .if1 .left) _ (c .if2 .taken)
+returns-2 c =
+    let fit = lists-fit (sym (c .before .before .before .lists-fit .ensures) ∙ not-false _ (c .before .before .if1 .left)) in
+    write-out _ _ _ _ _ _ fit (c .before .rows-width .ensures) (c .if2 .taken)
 
-cast-put-head : tie.Need-cast-put-head
-cast-put-head c = omega (arith, write-sheet _ _ _ _ _ (c .before .before .sheet-width .ensures) (c .before .if1 .left) .few)
+add-if3 : tie.Need-add-if3
+add-if3 c = omega (arith, width-bounds (c .before .before .before .before .before .before .before .before .before .args .unit))
 
-put-head-requires : tie.Need-put-head-requires
-put-head-requires c κs = head-room _ _ _ _ _ (c .before .before .before .sheet-width .ensures) (c .before .before .if1 .left) (c .before .before .before .before .before .before .before .before .args .out .now) (c .before .if2 .left)
+add-if3-2 : tie.Need-add-if3-2
+add-if3-2 c =
+    let a = c .before .before .before .before .before .before .before .before .before .before .args in
+    omega (arith, width-bounds (a .unit), width-bounds (a .tenancy))
 
-put-rows-requires : tie.Need-put-rows-requires
-put-rows-requires c κs = ((write-sheet _ _ _ _ _ (c .before .before .before .before .before .before .before .sheet-width .ensures) (c .before .before .before .before .before .before .if1 .left) .loads, write-sheet _ _ _ _ _ (c .before .before .before .before .before .before .before .sheet-width .ensures) (c .before .before .before .before .before .before .if1 .left) .delays), rows-room _ _ _ _ _ (c .before .before .before .before .before .before .before .sheet-width .ensures) (c .before .before .before .before .before .before .if1 .left) (c .before .before .before .before .before .before .before .before .before .before .before .before .args .out .now) (c .before .before .before .before .before .if2 .left) (c .before .before .before .put-head .ensures))
+add-if3-3 : tie.Need-add-if3-3
+add-if3-3 c =
+    let told = c .before .before .before in
+    let fit = lists-fit (sym (told .before .before .lists-fit .ensures) ∙ not-false _ (told .before .if1 .left)) in
+    let a = told .before .before .before .before .before .before .before .args in
+    omega (
+      arith,
+      width-bounds (a .unit),
+      width-bounds (a .tenancy),
+      rows-small _ _ _ _ (fit .loads) (fit .delays) (fit .few) (told .rows-width .ensures),
+    )
 
 returns-3 : tie.Need-returns-3
-returns-3 c = write-done _ _ _ _ _ (c .before .before .before .before .before .before .before .before .before .before .sheet-width .ensures) (c .before .before .before .before .before .before .before .before .before .if1 .left) _ (c .before .before .before .before .before .before .before .before .if2 .left) (c .before .before .before .before .before .before .put-head .ensures) (c .before .before .put-rows .ensures)
+returns-3 c =
+    let told = c .before .before .before .before in
+    let fit = lists-fit (sym (told .before .before .lists-fit .ensures) ∙ not-false _ (told .before .if1 .left)) in
+    write-long _ _ _ _ _ _ fit (told .rows-width .ensures) (c .before .before .before .if2 .left)
+    (c .before .before .width .ensures) (c .before .width2 .ensures) (c .if3 .taken)
+
+cast-put-heading : tie.Need-cast-put-heading
+cast-put-heading c =
+    let told = c .before .before .before .before in
+    omega (arith, lists-fit (sym (told .before .before .lists-fit .ensures) ∙ not-false _ (told .before .if1 .left)) .few)
+
+put-heading-requires : tie.Need-put-heading-requires
+put-heading-requires c κs =
+    let told = c .before .before .before .before .before in
+    let fit = lists-fit (sym (told .before .before .lists-fit .ensures) ∙ not-false _ (told .before .if1 .left)) in
+    let out = told .before .before .before .before .before .before .before .args .out .now in
+    heading-room _ _ _ _ _ out fit (told .rows-width .ensures) (c .before .before .before .before .if2 .left)
+    (c .before .before .before .width .ensures) (c .before .before .width2 .ensures) (c .before .if3 .left)
+
+put-rows-requires : tie.Need-put-rows-requires
+put-rows-requires c κs =
+    let told = c .before .before .before .before .before .before .before .before .before in
+    let tested = c .before .before .before .before .before in
+    let fit = lists-fit (sym (told .before .before .lists-fit .ensures) ∙ not-false _ (told .before .if1 .left)) in (
+      (fit .loads, fit .delays),
+      rows-room _ _ _ _ _ _ fit (told .rows-width .ensures) (tested .before .before .before .if2 .left)
+          (tested .before .before .width .ensures) (tested .before .width2 .ensures) (tested .if3 .left)
+          (c .before .before .before .put-heading .ensures),
+    )
+
+returns-4 : tie.Need-returns-4
+returns-4 c =
+    let told = c .before .before .before .before .before .before .before .before .before .before .before .before in
+    let tested = c .before .before .before .before .before .before .before .before in
+    let fit = lists-fit (sym (told .before .before .lists-fit .ensures) ∙ not-false _ (told .before .if1 .left)) in
+    write-done _ _ _ _ _ _ fit (told .rows-width .ensures) (tested .before .before .before .if2 .left)
+    (tested .before .before .width .ensures) (tested .before .width2 .ensures) (tested .if3 .left)
+    (c .before .before .before .before .before .before .put-heading .ensures) (c .before .before .put-rows .ensures)
 
 pub write-spec : {M : Type 1} → statement M
 write-spec =
@@ -29,9 +87,16 @@ write-spec =
     (tie.spec
     (λ c κs. search needs)
     returns
+    rows-width-requires
     returns-2
-    cast-put-head
-    put-head-requires
+    (λ c κs. search needs)
+    add-if3
+    (λ c κs. search needs)
+    add-if3-2
+    add-if3-3
+    returns-3
+    cast-put-heading
+    put-heading-requires
     put-rows-requires
     (λ c. search needs)
-    returns-3)
+    returns-4)

@@ -1,56 +1,73 @@
--- `main`. The loop's invariant: the unit is sound, and the bytes that are there lie within the buffer.
+-- `main`. The loop's invariant: of what has been read so much is served, and what is left stands at the start of the buffer.
 use borrow.Author.Needs.{needs}
 use native.Mathlib.Omega.{arith}
-use Rattle.unit.proofs.Sound.{sound-new}
-use Rattle.unit.specs.Sound.{Sound}
-use lib.ListN.{length}
+use Prim.Native.Nat.{_+_}
+use mathlib.Core.Logic.{⊎-elim}
+use mathlib.Core.Path.{_≡_, sym, refl, _∙_}
 use lib.Seq.{length-take-le}
-use Prim.Native.Nat.{_≤_}
-use mathlib.Core.Path.{_≡_, sym, refl, subst}
+use Rattle.line.proofs.Adding.{printed-within}
+use lib.ListN.{length}
+use Rattle.wire.specs.declared.Input.the-variants.{Bytes, Later, End}
+use Rattle.wire.specs.Input.{came}
+use Rattle.shelf.proofs.Loop.{Holds, holds-start, holds-sound, used-within, holds-served, came-within, holds-as, room-left}
+use Rattle.shelf.proofs.Loop.{holds-came}
 use Rattle.shelf.proofs.main.Statement.{statement}
 use Rattle.shelf.proofs.main.Tie as tie
 
 abbrev Inv-loop : tie.InvT-loop
-Inv-loop buf₀ line₀ st₀ turns₀ buf line st turns = Sound (st .unit) × (st .have ≤ length buf) × (length buf ≡ 16384)
+Inv-loop buf₀ line₀ shelf₀ have₀ ended₀ turns₀ buf line shelf have ended turns = Holds (length buf₀) shelf buf have
 
 abbrev μ-loop : tie.MeasureT-loop
-μ-loop buf₀ line₀ st₀ turns₀ buf line st turns = turns
-
-new-requires : tie.Need-new-requires Inv-loop μ-loop
-new-requires c κs = search needs
+μ-loop buf₀ line₀ shelf₀ have₀ ended₀ turns₀ buf line shelf have ended turns = turns
 
 loop-holds : tie.Need-loop-holds Inv-loop μ-loop
-loop-holds c = (subst Sound (sym (c .new .ensures)) (sound-new _), omega arith, refl)
+loop-holds c = holds-start _ (c .new .ensures) (omega arith)
 
-slice-aggregate-step : tie.Need-slice-aggregate-step Inv-loop μ-loop
-slice-aggregate-step c = search needs
-
-step-requires : tie.Need-step-requires Inv-loop μ-loop
-step-requires c κs = search needs
+serve-requires : tie.Need-serve-requires Inv-loop μ-loop
+serve-requires c κs = holds-sound (c .before .before .before .loop .inv)
 
 array-share-prefix-line : tie.Need-array-share-prefix-line Inv-loop μ-loop
-array-share-prefix-line c = search needs
+array-share-prefix-line c = printed-within (c .serve .ensures .printed)
 
-slice-aggregate-write-all : tie.Need-slice-aggregate-write-all Inv-loop μ-loop
-slice-aggregate-write-all c = sym (length-take-le _ _ (omega arith))
+slice-aggregate-print : tie.Need-slice-aggregate-print Inv-loop μ-loop
+slice-aggregate-print c = sym (length-take-le _ _ (printed-within (c .before .serve .ensures .printed)))
 
-write-all-requires : tie.Need-write-all-requires Inv-loop μ-loop
-write-all-requires c κs = search needs
+slice-aggregate-serve : tie.Need-slice-aggregate-serve Inv-loop μ-loop
+slice-aggregate-serve c = sym (length-take-le _ _ (c .before .before .loop .inv .within))
 
-sub-turns : tie.Need-sub-turns Inv-loop μ-loop
-sub-turns c = search needs
+shift-requires : tie.Need-shift-requires Inv-loop μ-loop
+shift-requires c κs = (
+  used-within (c .before .before .before .before .before .before .before .before .before .before .before .loop .inv) _
+      (c .before .before .before .before .before .before .before .serve .ensures) (c .before .enum-told .given .1),
+  c .before .before .before
+      .before .before .before .before .before .before .before .before .loop .inv .within,
+)
 
-loop-less : tie.Need-loop-less Inv-loop μ-loop
-loop-less c = search needs
+read-behind-requires : tie.Need-read-behind-requires Inv-loop μ-loop
+read-behind-requires c κs = room-left (c .before .before .before .before .before .before .before .before .before .before .before .loop .inv)
+    _ (c .before .before .before .before .before .before .before .serve .ensures) (c .before .enum-told2 .given .1)
+
+add-have : tie.Need-add-have Inv-loop μ-loop
+add-have c = omega (
+  arith,
+  came-within (c .before .n .given .0 .0)
+      (c .before .before .before .before .before .before .before .before .before .before .before .before .before
+      .before .before .before .loop
+      .inv) (c .before .before .before .before .read-behind .ensures) (c .before .n .given .1),
+)
 
 loop-again : tie.Need-loop-again Inv-loop μ-loop
-loop-again c = search needs
-
-returns : tie.Need-returns Inv-loop μ-loop
-returns c = search needs
-
-returns-2 : tie.Need-returns-2 Inv-loop μ-loop
-returns-2 c = search needs
+unfolding came
+loop-again c =
+    let inv = c .before .before .before .before .before .before .before .before .before .loop .inv in
+    let here = c .before .before .before .before .before .before .before .before .before .loop .have in
+    let nothing : here ≡ here + 0 = omega arith in
+    let turn = c .before .before .before .before .before .serve .ensures in
+    ⊎-elim (λ w. holds-as (w .5) (w .6) (holds-served inv _ turn (w .1 .given .1) (w .3 .ensures)))
+    (⊎-elim (λ w. holds-as (w .8) (w .9) (holds-came inv _ turn (w .1 .given .1) (Bytes _) (w .3 .ensures) (w .6 .given .1)))
+    (⊎-elim (λ w. holds-as (w .7) (w .8 ∙ nothing) (holds-came inv _ turn (w .1 .given .1) Later (w .3 .ensures) (w .6 .given .1)))
+    (λ w. holds-as (w .7) (w .8 ∙ nothing) (holds-came inv _ turn (w .1 .given .1) End (w .3 .ensures) (w .6 .given .1)))))
+    (c .match .came)
 
 pub main-spec : {M : Type 1} → statement M
 main-spec =
@@ -58,15 +75,30 @@ main-spec =
     (tie.spec
     Inv-loop
     μ-loop
-    new-requires
+    (λ c κs. search needs)
     loop-holds
-    slice-aggregate-step
-    step-requires
+    (λ c. search needs)
+    slice-aggregate-serve
+    serve-requires
     array-share-prefix-line
-    slice-aggregate-write-all
-    write-all-requires
-    sub-turns
-    loop-less
+    slice-aggregate-print
+    (λ c κs. search needs)
+    (λ c. search needs)
+    (λ c. search needs)
+    (λ c. search needs)
+    shift-requires
+    (λ c. search needs)
+    (λ c. search needs)
+    read-behind-requires
+    (λ c. search needs)
+    add-have
+    (λ c. search needs)
+    (λ c. search needs)
+    (λ c. search needs)
+    (λ c. search needs)
+    (λ c. search needs)
+    (λ c. search needs)
+    (λ c. search needs)
+    (λ c. search needs)
     loop-again
-    returns
-    returns-2)
+    (λ c. search needs))

@@ -13,14 +13,16 @@ returns-2 : tie.Need-returns-2
 returns-2 c = second _ _ _ (c .before .before .if1 .left) (c .before .if2 .taken) (c .settings .ensures)
 
 returns-3 : tie.Need-returns-3
-returns-3 c = third _ _ _ (c .before .before .before .if1 .left) (c .before .before .if2 .left) (c .before .if3 .taken) (c .request .ensures)
+returns-3 c = third _ _ _ (c .before .before .before .if1 .left) (c .before .before .if2 .left)
+    (c .before .if3 .taken) (c .request .ensures)
 
 returns-4 : tie.Need-returns-4
-returns-4 c = fourth _ _ _ (c .before .before .before .before .if1 .left) (c .before .before .before .if2 .left) (c .before .before .if3 .left) (c .before .if4 .taken) (c .give-back .ensures)
+returns-4 c = fourth _ _ _ (c .before .before .before .before .if1 .left) (c .before .before .before .if2 .left)
+    (c .before .before .if3 .left) (c .before .if4 .taken) (c .give-back .ensures)
 
 returns-5 : tie.Need-returns-5
-unfolding numberOf
-returns-5 c = unknown-call _ _ _ (c .before .before .before .if1 .left) (c .before .before .if2 .left) (c .before .if3 .left) (c .if4 .left) _ refl
+returns-5 c = unknown-call _ _ _ (c .before .before .before .if1 .left) (c .before .before .if2 .left)
+    (c .before .if3 .left) (c .if4 .left) _ refl
 
 pub follow-spec : {M : Type 1} → statement M
 follow-spec =

@@ -6,10 +6,10 @@ use Rattle.stream.proofs.rent.Statement.{statement}
 use Rattle.stream.proofs.rent.Tie as tie
 
 returns : tie.Need-returns
-returns c = rent-framed _ _ _ _ (told-got (c .before .before .before .any .ensures) (c .before .t .given .1))
+returns c = rent-framed _ _ _ _ (told-got (c .before .before .before .number .ensures) (c .before .t .given .1))
 
 returns-2 : tie.Need-returns-2
-returns-2 c = tenancy-stops _ _ _ _ (told-refused (c .before .before .before .any .ensures) (c .before .e .given .1))
+returns-2 c = tenancy-stops _ _ _ _ (told-refused (c .before .before .before .number .ensures) (c .before .e .given .1))
 
 pub rent-spec : {M : Type 1} → statement M
 rent-spec =

@@ -1,57 +1,56 @@
--- `timing::least` meets its contract.
-use Prim.Native.Nat.{_-_}
-use Rattle.timing.proofs.Stuck.{Climb, refit, within-caps}
+-- `timing::least` meets its contract. The measure: each turn the time rises, or it stays and one block more is placed.
+use Prim.Native.Nat.{_+_, _-_, _*_}
+use mathlib.Core.Path.{refl}
+use Rattle.basics.specs.Limits.{blocksMost, timeMost}
+use Rattle.timing.specs.Parts.{SoFar}
+use Rattle.timing.proofs.Rises.{so-far-start, so-far-end, turned-low}
 use borrow.Author.Needs.{needs}
 use native.Mathlib.Omega.{arith}
 use Rattle.timing.proofs.least.Statement.{statement}
 use Rattle.timing.proofs.least.Tie as tie
 
 abbrev Inv-loop : tie.InvT-loop
-Inv-loop n q costs starts masks caps₀ at₀ loads₀ t₀ x₀ caps at loads t x = Climb n q masks costs starts caps at loads t x
+Inv-loop n q costs starts masks caps₀ seats₀ counts₀ next₀ prev₀ out₀ by₀ moment₀ b₀ caps seats counts next prev out by moment b =
+    SoFar n q b masks costs starts caps seats counts next prev out by (moment .time) (moment .room)
 
 abbrev μ-loop : tie.MeasureT-loop
-μ-loop n q costs starts masks caps₀ at₀ loads₀ t₀ x₀ caps at loads t x = 1125000000 - t
-
-fill-at-requires : tie.Need-fill-at-requires Inv-loop μ-loop
-fill-at-requires c κs = search needs
+μ-loop n q costs starts masks caps₀ seats₀ counts₀ next₀ prev₀ out₀ by₀ moment₀ b₀ caps seats counts next prev out by moment b =
+    (timeMost - moment .time) * (blocksMost + 1) + (q - b)
 
 loop-holds : tie.Need-loop-holds Inv-loop μ-loop
-loop-holds c = record { filled = c .fill-at .ensures; time = omega arith; lower = λ h. let z : ⊥ = omega arith in absurd z }
+loop-holds c = so-far-start _ (c .before .before .before .before .pre) (c .capacities .ensures) refl
 
-mul-if1 : tie.Need-mul-if1 Inv-loop μ-loop
-mul-if1 c = omega (arith, c .loop .inv .filled .table .few)
+seat-requires : tie.Need-seat-requires Inv-loop μ-loop
+seat-requires c κs = let k = c .before .before .before .before .before .before .before in (k .before .loop .inv, k .loop-test .taken)
 
 element-copy-out-if1 : tie.Need-element-copy-out-if1 Inv-loop μ-loop
-element-copy-out-if1 c = omega (arith, c .loop .inv .filled .table .few)
+element-copy-out-if1 c =
+    let k = c .before .before .before .before .before .before .before .before in
+    omega (arith, k .loop-test .taken, k .before .loop .inv .seated .placed .blocks)
 
-raise-requires : tie.Need-raise-requires Inv-loop μ-loop
-raise-requires c κs = let l = c .before .before .before .before .before .loop in (l .inv .filled, (let z = c .before .before .before .if1 .taken in omega arith), l .inv .time)
+cast-if1 : tie.Need-cast-if1 Inv-loop μ-loop
+cast-if1 c =
+    let k = c .before .before .before .before .before .before .before .before .before in
+    omega (arith, turned-low (c .before .seat .ensures) (k .loop-test .taken), k .before .loop .inv .table .few)
 
-fill-at-requires-2 : tie.Need-fill-at-requires-2 Inv-loop μ-loop
-fill-at-requires-2 c κs =
-    let a = c .before .before .before .before .before .before .before .before .before .before .before .before .before .before .before .before .args in
-    let l = c .before .before .before .before .before .before .before .before .before .loop in
-    let r = c .before .before .before .raise in
-    refit (a .n) (a .q) (a .masks .now) (a .costs .now) (a .starts .now) (l .t) (r .result) (l .caps) (l .at) (l .loads) (l .x) (l .inv .filled) (omega (arith, r .ensures .later))
+add-b : tie.Need-add-b Inv-loop μ-loop
+add-b c =
+    let k = c .before .before .before .before .before .before .before .before .before .before in
+    omega (arith, k .loop-test .taken, k .before .loop .inv .seated .placed .blocks)
 
 loop-less : tie.Need-loop-less Inv-loop μ-loop
-loop-less c = let r = c .before .before .before .before .raise in omega (arith, r .ensures .later, r .ensures .time)
+loop-less c =
+    let k = c .before .before .before .before .before .before .before .before .before .before in
+    omega (arith, c .before .before .seat .ensures .placed (c .if1 .taken) .1, k .loop-test .taken)
 
 loop-again : tie.Need-loop-again Inv-loop μ-loop
-loop-again c = let r = c .before .before .before .before .raise in record { filled = c .fill-at2 .ensures; time = r .ensures .time; lower = λ _. r .ensures .short }
+loop-again c = c .before .before .seat .ensures .placed (c .if1 .taken) .0
 
-returns : tie.Need-returns Inv-loop μ-loop
-returns c =
-    let a = c .before .before .before .before .before .before .before .before .before .args in
-    let l = c .before .before .loop in
-    record {
-      placed = l .inv .filled .filled .placed;
-      whole = c .if1 .left;
-      within = within-caps (a .n) (a .q) (a .masks .now) (a .costs .now) (a .starts .now) (l .t) (l .caps) (l .at) (l .inv .filled .caps-at) (l .inv .filled .filled .within);
-      time = l .inv .time;
-      lower = l .inv .lower;
-      caps-at = l .inv .filled .caps-at;
-    }
+loop-less-2 : tie.Need-loop-less-2 Inv-loop μ-loop
+loop-less-2 c = let w = c .before .before .seat .ensures .raised (c .if1 .left) in omega (arith, w .1, w .0 .time)
+
+loop-again-2 : tie.Need-loop-again-2 Inv-loop μ-loop
+loop-again-2 c = c .before .before .seat .ensures .raised (c .if1 .left) .0
 
 pub least-spec : {M : Type 1} → statement M
 least-spec =
@@ -59,12 +58,14 @@ least-spec =
     (tie.spec
     Inv-loop
     μ-loop
-    fill-at-requires
+    (λ c κs. search needs)
     loop-holds
-    mul-if1
+    seat-requires
     element-copy-out-if1
-    raise-requires
-    fill-at-requires-2
+    cast-if1
+    add-b
     loop-less
     loop-again
-    returns)
+    loop-less-2
+    loop-again-2
+    (λ c. so-far-end (c .before .loop .inv) (c .loop-test .left)))

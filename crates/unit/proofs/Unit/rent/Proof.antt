@@ -5,16 +5,16 @@ use Rattle.unit.proofs.Lives.{rent-rented, rent-low}
 use Rattle.unit.specs.Life.{takes, refuses}
 use Rattle.unit.specs.Told.{told, toldAnswer}
 use Rattle.field.specs.Refusal.{numberOf}
-use mathlib.Core.Path.{sym, _∙_}
+use mathlib.Core.Path.{sym}
 use Rattle.unit.proofs.Unit.rent.Statement.{statement}
 use Rattle.unit.proofs.Unit.rent.Tie as tie
 
 returns : tie.Need-returns
-unfolding told toldAnswer refuses numberOf
+unfolding told toldAnswer refuses
 returns c = sym (rent-rented _ _ (c .if1 .taken))
 
 returns-2 : tie.Need-returns-2
-unfolding told toldAnswer refuses numberOf
+unfolding told toldAnswer refuses
 returns-2 c = sym (rent-low _ _ (c .before .before .if1 .left) (c .if2 .taken))
 
 returns-3 : tie.Need-returns-3

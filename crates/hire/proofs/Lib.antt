@@ -1,0 +1,4 @@
+pub mod Runs
+pub mod Clause
+pub mod Left
+pub mod Desk

@@ -1,0 +1,11 @@
+pub mod Lists
+pub mod Rows
+pub mod Plannable
+pub mod Plans
+pub mod Found
+pub mod Asking
+pub mod Exists
+pub mod Demand
+pub mod Answers
+pub mod ReadBack
+pub mod Unique

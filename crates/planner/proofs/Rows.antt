@@ -1,0 +1,108 @@
+-- The columns of a table: the cost and the start of each disk, and 0 behind them.
+--     start-small     every row ends its wait within 101 seconds
+--     UpTo            the columns are done up to a row: at the start, one row more, at the end
+use mathlib.Core.Path.{_≡_, refl, sym, ap, _∙_}
+use mathlib.Core.Logic.{⊎-elim}
+use mathlib.Core.List.{List, map}
+use Prim.Native.Nat.{ℕ, _+_, _≤_, _<_}
+use native.Mathlib.Omega.{arith}
+use borrow.Author.Count.{below-more}
+use lib.ListN.{length, getD, set, length-set, length-map, List·getD-map, List·getD-eq-default}
+use lib.Seq.{getD-set-same, getD-set-other, getD-take, length-take-le, ext-getD}
+use Rattle.basics.specs.Limits.{disksMost, startMost}
+use Rattle.basics.proofs.Tests.{lt-or-le}
+use Rattle.settings.specs.declared.Row.{Row}
+use Rattle.settings.specs.declared.Table.{Table}
+use Rattle.settings.specs.Row.{disk}
+use Rattle.settings.specs.Table.{disksOf, costs, Filled}
+use Rattle.settings.proofs.Accepted.{filled-length, filled-good, filled-zero}
+use Rattle.settings.proofs.Rows.{InRange, in-range}
+use Rattle.planner.specs.Asked.{startOf}
+use Rattle.planner.specs.Lists.{padTo}
+use Rattle.planner.specs.Parts.{Columns}
+use Rattle.planner.proofs.Lists.{pad-length, pad-at}
+
+-- ---- the rows of a table
+
+abbrev rowAt : Table → ℕ → Row
+rowAt t i = getD (t .rows) i (disk 0 0 0)
+
+module _ {t : Table} (w : Filled t) where
+  pub count-disks : length (disksOf t) ≡ t .disks
+  unfolding disksOf
+  count-disks = length-take-le (t .disks) (t .rows) (omega (arith, filled-length w, w .few))
+
+  pub row-in : (d : ℕ) → d < t .disks → InRange (rowAt t d)
+  row-in d l = in-range _ (filled-good w d l)
+
+  pub start-small : (i : ℕ) → startOf (rowAt t i) ≤ startMost
+  unfolding startOf
+  start-small i =
+      ⊎-elim
+      (λ l. omega (arith, row-in i l .load-high, row-in i l .delay-high))
+      (λ l. rw (filled-zero w i l) (omega arith))
+      (lt-or-le i (t .disks))
+
+  module _ (f : Row → ℕ) (z : f (disk 0 0 0) ≡ 0) where
+    -- a column, by its row
+    pub column-at : (i : ℕ) → getD (map f (disksOf t)) i 0 ≡ f (rowAt t i)
+    unfolding disksOf
+    column-at i =
+        ap (getD (map f (disksOf t)) i) (sym z) ∙ List·getD-map f (disksOf t) i (disk 0 0 0)
+        ∙ ap f (⊎-elim
+        (λ l. getD-take (t .disks) (t .rows) i (disk 0 0 0) l)
+        (λ l. List·getD-eq-default (disksOf t) (disk 0 0 0) {n = i} (omega (arith, count-disks)) ∙ sym (filled-zero w i l))
+        (lt-or-le i (t .disks)))
+
+    column-whole : (xs : List ℕ) → length xs ≡ disksMost → ((i : ℕ) → i < disksMost → getD xs i 0 ≡ f (rowAt t i))
+        → xs ≡ padTo disksMost (map f (disksOf t))
+    column-whole xs l h =
+        let k : length (map f (disksOf t)) ≤ disksMost = omega (arith, length-map (disksOf t) f, count-disks, w .few) in
+        ext-getD 0 xs _ (l ∙ sym (pad-length disksMost (map f (disksOf t)) k)) λ i m.
+        h i (omega (arith, l)) ∙ sym (column-at i) ∙ sym (pad-at disksMost (map f (disksOf t)) i)
+
+-- ---- row by row
+
+pub record UpTo (rows : List Row) (costs starts : List ℕ) (i : ℕ) : Type 0 where
+  pub below : i ≤ disksMost
+  pub costs-long : length costs ≡ disksMost
+  pub starts-long : length starts ≡ disksMost
+  pub cost : (k : ℕ) → k < i → getD costs k 0 ≡ (getD rows k (disk 0 0 0)) .cost
+  pub start : (k : ℕ) → k < i → getD starts k 0 ≡ startOf (getD rows k (disk 0 0 0))
+
+pub upto-start : (rows : List Row) (costs starts : List ℕ) → length costs ≡ disksMost → length starts ≡ disksMost → UpTo rows costs starts 0
+upto-start rows costs starts p q = record {
+  below = omega arith;
+  costs-long = p;
+  starts-long = q;
+  cost = λ k l. absurd (omega arith);
+  start = λ k l. absurd (omega arith);
+}
+
+-- one entry more of a list that is written from the front
+one-more : (f : ℕ → ℕ) (xs : List ℕ) (i v : ℕ) → i < length xs → v ≡ f i → ((k : ℕ) → k < i → getD xs k 0 ≡ f k)
+    → (k : ℕ) → k < i + 1 → getD (set xs i v) k 0 ≡ f k
+one-more f xs i v l e h =
+    below-more (λ k. getD (set xs i v) k 0 ≡ f k) i
+    (λ k m. getD-set-other xs i k v 0 (λ q. omega arith) ∙ h k m)
+    (getD-set-same xs i v 0 l ∙ e)
+
+pub upto-step : {rows : List Row} {costs starts : List ℕ} {i : ℕ} (r : Row) → i < disksMost → r ≡ getD rows i (disk 0 0 0)
+    → UpTo rows costs starts i → UpTo rows (set costs i (r .cost)) (set starts i (r .delay + r .load)) (i + 1)
+unfolding startOf
+upto-step {rows} {costs} {starts} {i} r l e w = record {
+  below = omega arith;
+  costs-long = length-set costs i (r .cost) ∙ w .costs-long;
+  starts-long = length-set starts i (r .delay + r .load) ∙ w .starts-long;
+  cost = one-more (λ k. (getD rows k (disk 0 0 0)) .cost) costs i (r .cost) (omega (arith, w .costs-long)) (ap (λ x. x .cost) e) (w .cost);
+  start =
+      one-more (λ k. startOf (getD rows k (disk 0 0 0))) starts i (r .delay + r .load) (omega (arith, w .starts-long)) (ap startOf e)
+      (w .start);
+}
+
+pub upto-done : {t : Table} {cs ss : List ℕ} {i : ℕ} → Filled t → disksMost ≤ i → UpTo (t .rows) cs ss i → Columns t cs ss
+unfolding startOf costs
+upto-done {t} {cs} {ss} {i} f l w = record {
+  costs-held = column-whole f (λ r. r .cost) refl cs (w .costs-long) (λ k m. w .cost k (omega arith));
+  starts-held = column-whole f startOf refl ss (w .starts-long) (λ k m. w .start k (omega arith));
+}

@@ -1,0 +1,4 @@
+pub mod Asked
+pub mod Lists
+pub mod Answered
+pub mod Parts

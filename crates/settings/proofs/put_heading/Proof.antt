@@ -1,0 +1,22 @@
+-- `settings::put_heading`: the opening, and N behind it.
+use borrow.Author.Needs.{needs}
+use Rattle.number.specs.Encode.{encode}
+use Rattle.field.specs.Put.{openingBytes}
+use Rattle.field.proofs.Puts.{front-room, put-behind}
+use Rattle.settings.specs.Draft.{headingBytes}
+use Rattle.settings.proofs.put_heading.Statement.{statement}
+use Rattle.settings.proofs.put_heading.Tie as tie
+
+put-opening-requires : tie.Need-put-opening-requires
+unfolding headingBytes
+put-opening-requires c κs = let a = c .before .before .args in
+    front-room (openingBytes 1 (a .unit) (a .tenancy)) (encode (a .disks)) (a .out .now) (c .before .before .pre)
+
+returns : tie.Need-returns
+unfolding headingBytes
+returns c =
+    put-behind (c .before .before .before .before .before .before .put-opening .ensures) (c .before .before .put .ensures)
+    (c .before .before .before .before .before .before .before .before .before .pre)
+
+pub put-heading-spec : {M : Type 1} → statement M
+put-heading-spec = tie.close (tie.spec put-opening-requires (λ c κs. search needs) (λ c. search needs) returns)

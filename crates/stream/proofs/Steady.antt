@@ -1,0 +1,183 @@
+-- A call in a stream does not depend on what follows it: more bytes change only an answer of 1.
+--     Steady, steady-got     such a reader; what it gave it gives with more bytes too
+--     asked-steady           one call is such a reader
+use mathlib.Core.Path.{_≡_, refl, sym, ap, _∙_, subst}
+use mathlib.Core.Bool.{Bool, true, false}
+use mathlib.Core.List.{List, [], _∷_, _++_}
+use mathlib.Core.Logic.{_⊎_, inl, inr}
+use Prim.Native.Nat.{ℕ, zero, suc, _+_, _≤_, _<_}
+use native.Mathlib.Omega.{arith}
+use borrow.Author.Tests.{le-leb, leb-true, leb-false}
+use lib.Dec.{eqb, leb, ltb}
+use lib.ListN.{length, take, drop, length-append, length-drop}
+use lib.Seq.{drop-append-le, take-append-le}
+use Rattle.basics.specs.Limits.{requestMost}
+use Rattle.basics.specs.Choice.{pick}
+use Rattle.number.specs.Decode.{Decoded, value, decode, more, under, refused as bad}
+use Rattle.basics.proofs.Choice.{pick-true, pick-false, pick-elim}
+use Rattle.basics.proofs.Tests.{by-cases}
+use Rattle.number.proofs.Decode.{decode-within}
+use Rattle.field.specs.Field.{taken, number, between, inside}
+use Rattle.field.specs.Sheet.{Out, got, refused, Parser, andThen, _>>=_, _>>_, pure, require}
+use Rattle.stream.specs.Frame.{bytes, sheet}
+use Rattle.stream.specs.Call.{roomMost, Asked, rents, returns, ofTenancy, ofSettings, ofRequest, none, behind, asked}
+
+-- ---- one number
+
+-- more bytes change nothing but a 1
+Firm : Decoded → Decoded → Type 0
+Firm d e = (d ≡ bad 1) ⊎ (e ≡ d)
+
+firm-under : (b : ℕ) (d e : Decoded) → Firm d e → Firm (under b d) (under b e)
+unfolding Firm under
+firm-under b d e (inl h) = inl (ap (under b) h)
+firm-under b d e (inr h) = inr (ap (under b) h)
+
+firm-pick : (b : Bool) (x d e : Decoded) → Firm d e → Firm (pick b x d) (pick b x e)
+unfolding Firm pick
+firm-pick true x d e h = inr refl
+firm-pick false x d e h = h
+
+more-firm : (k : ℕ) (s r : List ℕ) → Firm (more k s) (more k (s ++ r))
+unfolding more Firm
+more-firm zero [] r = inl refl
+more-firm (suc k) [] r = inl refl
+more-firm zero (b ∷ s) r = inr refl
+more-firm (suc k) (b ∷ s) r = firm-pick (eqb b 0) (bad 2) _ _ (firm-pick (ltb b 128) (value b 1) _ _ (firm-under b _ _ (more-firm k s r)))
+
+decode-firm : (s r : List ℕ) → Firm (decode s) (decode (s ++ r))
+unfolding decode Firm
+decode-firm [] r = inl refl
+decode-firm (b ∷ s) r = firm-pick (ltb b 128) (value b 1) _ _ (firm-under b _ _ (more-firm 3 s r))
+
+-- ---- readers
+
+-- the answer, and that it ends within the bytes
+unfoldable pub Ends : {A : Type 0} → ℕ → Out A → Type 0
+Ends n (got a e) = e ≤ n
+Ends n (refused m) = Unit
+
+unfoldable pub Same : {A : Type 0} → ℕ → Out A → Out A → Type 0
+Same n o q = (o ≡ refused 1) ⊎ ((q ≡ o) × Ends n o)
+
+pub record Steady {A : Type 0} (p : Parser A) : Type 0 where
+  pub more-bytes : (s r : List ℕ) (at : ℕ) → at ≤ length s → Same (length s) (p s at) (p (s ++ r) at)
+
+same-got : {A : Type 0} (n : ℕ) (o q : Out A) (a : A) (e : ℕ) → o ≡ got a e → Same n o q → (q ≡ got a e) × (e ≤ n)
+unfolding Same Ends
+same-got n o q a e h (inl x) = absurd (let w : got a e ≡ refused 1 = sym h ∙ x in let z : _≡_ {A = ℕ} 0 1 = cc in omega arith)
+same-got n o q a e h (inr x) = (x .0 ∙ h, subst (Ends n) h (x .1))
+
+-- what was read is there with more bytes too, and ends within those that were there
+pub steady-got : {A : Type 0} {p : Parser A} → Steady p → (s r : List ℕ) {a : A} {e : ℕ} → p s 0 ≡ got a e
+    → (p (s ++ r) 0 ≡ got a e) × (e ≤ length s)
+steady-got {A} {p} w s r {a} {e} h = same-got (length s) (p s 0) (p (s ++ r) 0) a e h (w .more-bytes s r 0 (omega arith))
+
+firm-taken : (n at : ℕ) (d e : Decoded) → ((v k : ℕ) → d ≡ value v k → at + k ≤ n) → Firm d e → Same n (taken at d) (taken at e)
+unfolding Firm Same Ends taken
+firm-taken n at (value v k) e w (inl h) = absurd (let z : _≡_ {A = ℕ} 0 1 = cc in omega arith)
+firm-taken n at (bad m) e w (inl h) = inl (ap (taken at) h)
+firm-taken n at (value v k) e w (inr h) = inr (ap (taken at) h, w v k refl)
+firm-taken n at (bad m) e w (inr h) = inr (ap (taken at) h, tt)
+
+pub number-steady : Steady number
+unfolding number
+number-steady = record {
+  more-bytes = λ s r at l.
+      subst (λ (x : List ℕ). Same (length s) (taken at (decode (drop at s))) (taken at (decode x))) (sym (drop-append-le at s r l))
+      (firm-taken (length s) at (decode (drop at s)) (decode (drop at s ++ r))
+      (λ v k h. omega (arith, decode-within (drop at s) v k h, length-drop at s)) (decode-firm (drop at s) r));
+}
+
+-- one reader, then another
+module _ {A B : Type 0} where
+  then-same : (n : ℕ) (o q : Out A) (f g : A → ℕ → Out B) → Same n o q → ((a : A) (e : ℕ) → e ≤ n → Same n (f a e) (g a e))
+      → Same n (andThen o f) (andThen q g)
+  unfolding Same Ends andThen
+  then-same n o q f g (inl h) w = inl (ap (λ (x : Out A). andThen x f) h)
+  then-same n (got a e) q f g (inr h) w = subst (λ (x : Out A). Same n (f a e) (andThen x g)) (sym (h .0)) (w a e (h .1))
+  then-same n (refused m) q f g (inr h) w = inr (ap (λ (x : Out A). andThen x g) (h .0), tt)
+
+  pub steady-bind : {p : Parser A} {k : A → Parser B} → Steady p → ((a : A) → Steady (k a)) → Steady (p >>= k)
+  unfolding _>>=_
+  steady-bind {p} {k} a b =
+      record {
+        more-bytes = λ s r at l. then-same (length s) (p s at) (p (s ++ r) at) _ _ (a .more-bytes s r at l)
+            (λ x e j. b x .more-bytes s r e j);
+      }
+
+  steady-then : {p : Parser A} {q : Parser B} → Steady p → Steady q → Steady (p >> q)
+  unfolding _>>_
+  steady-then {p} {q} a b =
+      record {
+        more-bytes = λ s r at l. then-same (length s) (p s at) (p (s ++ r) at) _ _ (a .more-bytes s r at l)
+            (λ x e j. b .more-bytes s r e j);
+      }
+
+pub steady-pure : {A : Type 0} (a : A) → Steady (pure a)
+unfolding pure Same Ends
+steady-pure a = record { more-bytes = λ s r at l. inr (refl, l) }
+
+steady-none : Steady none
+unfolding none Same Ends
+steady-none = record { more-bytes = λ s r at l. inr (refl, tt) }
+
+require-same : (n : ℕ) (b : Bool) (m at : ℕ) → at ≤ n → Same {A = Unit} n (pick b (got tt at) (refused m)) (pick b (got tt at) (refused m))
+unfolding Same Ends pick
+require-same n true m at l = inr (refl, l)
+require-same n false m at l = inr (refl, tt)
+
+steady-require : (b : Bool) (m : ℕ) → Steady (require b m)
+unfolding require
+steady-require b m = record { more-bytes = λ s r at l. require-same (length s) b m at l }
+
+steady-inside : (low high e : ℕ) → Steady (inside low high e)
+unfolding between
+steady-inside low high e =
+    steady-bind number-steady
+    (λ v. steady-then (steady-require (leb v high) e) (steady-then (steady-require (leb low v) e) (steady-pure v)))
+
+-- so many bytes
+steady-bytes : (n : ℕ) → Steady (bytes n)
+unfolding bytes Same Ends
+steady-bytes n = record {
+  more-bytes = λ s r at l.
+      by-cases (leb (at + n) (length s))
+      (λ t.
+      let h : at + n ≤ length s = leb-true _ _ t in
+      let x : bytes n s at ≡ got (take n (drop at s)) (at + n) = pick-true _ _ t in
+      let y : bytes n (s ++ r) at ≡ got (take n (drop at (s ++ r))) (at + n) =
+      pick-true _ _ (le-leb (at + n) (length (s ++ r)) (omega (arith, length-append s r))) in
+      let z : take n (drop at (s ++ r)) ≡ take n (drop at s) = ap (take n) (drop-append-le at s r l)
+      ∙ take-append-le n (drop at s) r (omega (arith, length-drop at s)) in
+      inr (y ∙ ap (λ (w : List ℕ). got w (at + n)) z ∙ sym x, subst (Ends (length s)) (sym x) h))
+      (λ f. inl (pick-false _ _ f));
+}
+
+pub steady-sheet : Steady sheet
+unfolding sheet
+steady-sheet = steady-bind (steady-inside 0 requestMost 6) steady-bytes
+
+steady-tenancy : (ask : ℕ → Asked) → Steady (ofTenancy ask)
+unfolding ofTenancy
+steady-tenancy ask = steady-bind number-steady (λ t. steady-pure (ask t))
+
+steady-settings : Steady ofSettings
+unfolding ofSettings
+steady-settings = steady-bind steady-sheet (λ s. steady-pure _)
+
+steady-request : Steady ofRequest
+unfolding ofRequest
+steady-request = steady-bind (steady-inside 0 roomMost 6) (λ room. steady-bind steady-sheet (λ s. steady-pure _))
+
+steady-behind : (c : ℕ) → Steady (behind c)
+unfolding behind
+steady-behind c =
+    pick-elim Steady (eqb c 1) _ _ (λ _. steady-tenancy rents) λ _.
+    pick-elim Steady (eqb c 2) _ _ (λ _. steady-settings) λ _.
+    pick-elim Steady (eqb c 3) _ _ (λ _. steady-request) λ _.
+    pick-elim Steady (eqb c 4) _ _ (λ _. steady-tenancy returns) λ _. steady-none
+
+pub asked-steady : Steady asked
+unfolding asked
+asked-steady = steady-bind number-steady steady-behind
