@@ -1,7 +1,7 @@
 -- Laws of entries laid into a lent buffer.
 --     rest, put-rest     `&s[at..]`, and what comes back from `&mut out[at..]`
 --     over-length, over-within, over-front, over-more     the buffer's length; the entries lie within it, and in front; one entry more
---     paste-start, paste-length, paste-paste              from the start on; the buffer's length; entries behind entries
+--     paste-length, paste-paste     from a place on: the buffer's length; entries behind entries
 use Prim.Native.Nat.{ℕ, suc, _+_, _-_, _≤_, _<_}
 use mathlib.Core.Path.{_≡_, refl, sym, ap, _∙_}
 use mathlib.Core.List.{List, [], _∷_, _++_, append-assoc, append-nil}
@@ -58,10 +58,6 @@ module _ {A : Type 0} where
       ∙ over-append xs (v ∷ []) out
 
   -- ---- from a place on
-
-  pub paste-start : (out xs : List A) → paste out 0 xs ≡ over xs out
-  unfolding paste
-  paste-start out xs = refl
 
   pub paste-length : (out : List A) (at : ℕ) (xs : List A) → at + length xs ≤ length out → length (paste out at xs) ≡ length out
   unfolding paste

@@ -1,11 +1,12 @@
 -- Laws of sums, counts, tests and greatest values over the numbers below a bound.
---     bit-true, bit-false, bit-le, bit-mono, bit-is     a counted test
+--     bit-true, bit-false, bit-le, bit-mono     a counted test
 --     gate-true, gate-false, gate-le, gate-mono, gate-some, gate-none, gate-most     a gated number
 --     sum-ext, sum-le, sum-zero, sum-add, sum-swap      termwise equal, termwise at most, nothing, two sums, a double sum
 --     sum-next, sum-term, sum-point     one term more; a term is at most the sum; two sums whose terms differ at one place at most
 --     sum-tight                         termwise at most, and the sum not less: termwise equal
 --     count-le, count-ext, count-point, count-tight, count-next     the same for counts
---     count-less, count-front, count-enough     more where one number more passes; the first, then the rest; numbers that fail
+--     count-less, count-room     more where one number more passes; less than all where one fails
+--     count-front, count-enough     the first, then the rest; numbers that fail
 --     count-most, count-none, count-all, count-here, count-some     a count's bounds
 --     any-here, any-some, any-none, any-mono, any-ext, any-front    a test over the numbers below a bound
 --     latest-term, latest-le, latest-ext                the greatest value against a bound
@@ -39,7 +40,7 @@ unfolding bit
 bit-mono true b f = omega (arith, bit-true b (f refl))
 bit-mono false b f = omega arith
 
-pub bit-is : (a b : Bool) → bit a ≡ bit b → a ≡ b
+bit-is : (a b : Bool) → bit a ≡ bit b → a ≡ b
 unfolding bit
 bit-is true true e = refl
 bit-is true false e = let z : ⊥ = omega arith in absurd z
@@ -219,6 +220,10 @@ pub count-less : (k : ℕ) (p r : ℕ → Bool) (j : ℕ) → j < k → ((i : �
     → count k p < count k r
 count-less k p r j h f o t =
     ⊎-elim (λ l. l) (λ l. absurd (differ (count-tight k p r f l j h t) o)) (lt-or-le (count k p) (count k r))
+
+pub count-room : (k : ℕ) (p : ℕ → Bool) (j : ℕ) → j < k → p j ≡ false → count k p < k
+count-room k p j h o =
+    omega (arith, count-less k p (λ i. true) j h (λ i l t. refl) o refl, count-most k (λ i. true))
 
 -- ---- a test over the numbers below a bound
 

@@ -2,7 +2,7 @@
 --     by-cases, below-or, lt-or-le, below-suc     a test passes or fails; a number is below another, or is not
 --     differ, not-here, same-test      no test does both; one that can't pass fails; two that imply one another are equal
 --     and-left, and-right, both, and-both, first-false, second-false     both of two tests
---     or-elim, or-left, or-right, or-neither     one of two tests
+--     or-elim, or-left, or-right     one of two tests
 use Prim.Native.Nat.{ℕ, suc, _≤_, _<_}
 use mathlib.Core.Path.{_≡_, refl, sym, _∙_}
 use mathlib.Core.Logic.{_⊎_, inl, inr}
@@ -75,8 +75,3 @@ or-left false b e = absurd (differ e refl)
 pub or-right : (a b : Bool) → b ≡ true → (a || b) ≡ true
 or-right true b e = refl
 or-right false b e = e
-
--- where each fails, none passes
-pub or-neither : (a b : Bool) → a ≡ false → b ≡ false → (a || b) ≡ false
-or-neither true b p q = p
-or-neither false b p q = q

@@ -6,7 +6,7 @@
 --     room-grows, room-more     a later time has no less room, and more where one disk has read more
 --     alone-late, alone-soon    a disk reads m blocks in m times its cost, from its start on
 --     enough-alone, enough-last    times at which there is enough room: when one disk alone has it, and the end of all times
---     first-unique              there is one first time
+--     first-room-unique         there is one first time
 use Prim.Native.Nat.{ℕ, zero, suc, _+_, _-_, _*_, _/_, _≤_, _<_, _^_}
 use mathlib.Core.Path.{_≡_, ap, sym, _∙_}
 use mathlib.Core.Logic.{⊎-elim}
@@ -17,7 +17,7 @@ use native.Mathlib.Omega.{arith}
 use lib.Dec.{eqb, ltb}
 use lib.ListN.{getD}
 use borrow.Author.Tests.{ltb-true, ltb-false, eq-eqb, ne-eqb}
-use Rattle.basics.specs.Limits.{timeMost}
+use Rattle.basics.specs.Limits.{disksMost, timeMost}
 use Rattle.mask.specs.Has.{has}
 use Rattle.mask.specs.Lowest.{Lowest}
 use Rattle.mask.proofs.Has.{has-zero, clear-lt}
@@ -28,7 +28,7 @@ use Rattle.basics.proofs.Tests.{by-cases, and-right, below-suc}
 use Rattle.basics.proofs.Count.{gate-true, gate-false, gate-le, gate-mono, sum-le, sum-zero, sum-point}
 use Rattle.model.proofs.Capacity.{capacity-before, capacity-after, capacity-grows}
 use Rattle.places.specs.Table.{Table}
-use Rattle.capacity.specs.Capacities.{Small, roomOf, Awaited, First}
+use Rattle.capacity.specs.Capacities.{Small, roomOf, Awaited, FirstRoom}
 use Rattle.capacity.specs.Parts.{Alone, Enough}
 
 -- ---- the disks of a mask one by one
@@ -37,9 +37,9 @@ use Rattle.capacity.specs.Parts.{Alone, Enough}
 pub record Left (n x rest : ℕ) : Type 0 where
   pub small : Small n x
   pub part : (d : ℕ) → has rest d ≡ true → has x d ≡ true
-  pub fits : rest < 2 ^ 64
+  pub fits : rest < 2 ^ disksMost
 
-pub left-all : {n x : ℕ} → Small n x → x < 2 ^ 64 → Left n x x
+pub left-all : {n x : ℕ} → Small n x → x < 2 ^ disksMost → Left n x x
 left-all s h = record { small = s; part = λ d t. t; fits = h }
 
 module _ {n x m d : ℕ} (s : Left n x m) (z : m ≡ 0 → ⊥) (w : Lowest m d) where
@@ -49,9 +49,9 @@ module _ {n x m d : ℕ} (s : Left n x m) (z : m ≡ 0 → ⊥) (w : Lowest m d)
   pub left-disk : d < n
   left-disk = s .small d (s .part d left-has)
 
-  module _ {r : ℕ} (h : r < 2 ^ 64) (f : (e : ℕ) → has r e ≡ (not (eqb e d) && has m e)) where
+  module _ {r : ℕ} (h : r < 2 ^ disksMost) (f : (e : ℕ) → has r e ≡ (not (eqb e d) && has m e)) where
     pub left-less : r < m
-    left-less = clear-lt 64 r m d h f left-has
+    left-less = clear-lt disksMost r m d h f left-has
 
     pub left-next : Left n x r
     left-next =
@@ -166,11 +166,11 @@ module _ {n : ℕ} {costs starts : List ℕ} {t x more : ℕ} (a : Awaited n cos
 
 -- there is one first time
 module _ {n : ℕ} {costs starts : List ℕ} {t x more : ℕ} (tb : Table n costs starts) where
-  first-below : {r r′ : ℕ} → First n costs starts t x more r → First n costs starts t x more r′ → r ≤ r′
+  first-below : {r r′ : ℕ} → FirstRoom n costs starts t x more r → FirstRoom n costs starts t x more r′ → r ≤ r′
   first-below {r} {r′} f f′ =
       by-cases (ltb r′ r)
       (λ e. let l = ltb-true r′ r e in absurd (omega (arith, f .before, f′ .after, room-grows tb x r′ (r - 1) (omega arith))))
       (λ e. ltb-false r′ r e)
 
-  pub first-unique : {r r′ : ℕ} → First n costs starts t x more r → First n costs starts t x more r′ → r ≡ r′
-  first-unique f f′ = le-antisymm (first-below f f′) (first-below f′ f)
+  pub first-room-unique : {r r′ : ℕ} → FirstRoom n costs starts t x more r → FirstRoom n costs starts t x more r′ → r ≡ r′
+  first-room-unique f f′ = le-antisymm (first-below f f′) (first-below f′ f)

@@ -3,7 +3,7 @@
 --     Small          a mask of disks below n
 --     roomOf         the capacities of some disks, summed
 --     Awaited        disks that come to have room for so many blocks more
---     First          the first time at which they have
+--     FirstRoom      the first time at which they have
 use Prim.Native.Nat.{ℕ, _+_, _-_, _≤_, _<_}
 use mathlib.Core.Path.{_≡_}
 use mathlib.Core.Bool.{true}
@@ -37,7 +37,7 @@ pub record Awaited (n : ℕ) (costs starts : List ℕ) (t x more : ℕ) : Type 0
   pub last : roomOf n costs starts x t + more ≤ roomOf n costs starts x timeMost
 
 -- r is the first time at which they have that room: they have it at r, and not just before
-pub record First (n : ℕ) (costs starts : List ℕ) (t x more r : ℕ) : Type 0 where
+pub record FirstRoom (n : ℕ) (costs starts : List ℕ) (t x more r : ℕ) : Type 0 where
   pub later : t < r
   pub time : r ≤ timeMost
   pub after : roomOf n costs starts x t + more ≤ roomOf n costs starts x r

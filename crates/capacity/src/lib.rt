@@ -5,7 +5,7 @@ ghost use lib.ListN.{length};
 ghost use Rattle.basics.specs.Limits.{disksMost, blocksMost};
 ghost use Rattle.model.specs.Capacity.{capacity};
 ghost use Rattle.places.specs.Table.{Table};
-ghost use Rattle.capacity.specs.Capacities.{Capacities, Small, roomOf, Awaited, First};
+ghost use Rattle.capacity.specs.Capacities.{Capacities, Small, roomOf, Awaited, FirstRoom};
 ghost use Rattle.capacity.specs.Parts.{Alone, Enough};
 use basics::Capacities;
 use basics::TIME_MOST;
@@ -75,7 +75,7 @@ fn enough(n: usize, costs: &[u32], starts: &[u32], t: u32, x: u64, more: u64) ->
 // The first time at which the disks of x have room for so many blocks more than at t: halving between two times (001, Theorem 5.5).
 pub fn earliest(n: usize, costs: &[u32], starts: &[u32], t: u32, x: u64, more: u64) -> u32
     requires { ⌜ Awaited n (now costs) (now starts) t x more ⌝ }
-    ensures { λ r. ⌜ First n (now (costs .entry)) (now (starts .entry)) t x more r ⌝ }
+    ensures { λ r. ⌜ FirstRoom n (now (costs .entry)) (now (starts .entry)) t x more r ⌝ }
 {
     let size = room_at(n, costs, starts, t, x) + more;
     let mut low = t;

@@ -26,7 +26,7 @@ use Rattle.plan.specs.declared.Answer.the-variants.{Accepted, Refused as NoPlan
 use Rattle.plan.specs.Draft.{planBytes}
 use Rattle.plan.specs.Plan.{Plan, planSheet}
 use Rattle.plan.specs.Range.{InRange}
-use Rattle.plan.specs.Receive.{roomFor, settle as settledOf, heads, Received}
+use Rattle.plan.specs.Receive.{roomFor, ifRoom, heads, Received}
 use Rattle.plan.specs.Told.{toldPlan}
 use Rattle.plan.proofs.Longest.{longest}
 use Rattle.basics.proofs.Buffer.{over-within, over-front}
@@ -34,20 +34,21 @@ use Rattle.plan.proofs.Accepted.{Took, took}
 use Rattle.plan.proofs.RoundTrip.{sheet-read, same-plan}
 use Rattle.planner.proofs.Answers.{Unsent, denied, longer, plans-range, answered-sheet, answered-none}
 use Rattle.planner.proofs.Plans.{plans-unique}
-use Rattle.unit.specs.declared.Answer.{Answer as Verdicts}
-use Rattle.unit.specs.declared.Answer.the-variants.{Accepted as Taken, Refused as Denied}
+use Rattle.field.specs.declared.Verdict.{Verdict}
+use Rattle.field.specs.declared.Verdict.the-variants.{Accepted as Taken, Refused as Denied}
 use Rattle.unit.specs.declared.Done.{Done}
 use Rattle.unit.specs.declared.Requested.{Requested}
 use Rattle.unit.specs.declared.Unit.{Unit}
 use Rattle.unit.specs.Life.{accepted, Outcome, takes, refuses, rent, settled, set}
 use Rattle.unit.specs.Request.{askedOf, Replied}
 use Rattle.unit.specs.Sound.{Sound}
-use Rattle.unit.specs.Told.{told, toldAnswer}
-use Rattle.unit.specs.Unit.{newUnit, tenancyOf, tenanted, withTable}
+use Rattle.unit.specs.Told.{told, toldVerdict}
+use Rattle.unit.specs.Unit.{newUnit, tenancyOf, tenanted}
 use Rattle.unit.proofs.Sound.{sound-new, sound-rent, sound-set}
 use Rattle.unit.proofs.Replies.{replied-as}
 use Rattle.line.specs.declared.Word.the-variants.{Refused}
-use Rattle.console.specs.Bench.{Ready, judge, accept, close, settle, hire, benchInput, answerLine, Asks, Line, Tells, Rented}
+use Rattle.console.specs.Bench.{Ready, judge, accept, close, apply, hire, benchInput, answerLine, Asks, Line, Tells}
+use Rattle.console.specs.Parts.{Rented, Shows, Replies}
 use Rattle.stream.specs.Frame.{sheet, part}
 use Rattle.line.specs.Line.{spoken, planLine}
 use Rattle.line.specs.Printed.{Printed}
@@ -57,14 +58,14 @@ use Rattle.line.proofs.Adding.{printed-unique}
 
 module _ (s : List ℕ) (at : ℕ) {o : Outcome} (d : Done) (h : told d ≡ o) where
   pub outcome-taken : d .answer ≡ Taken → accept o s at ≡ got (d .unit) at
-  unfolding accept judge told toldAnswer
+  unfolding accept judge told toldVerdict
   outcome-taken q =
-      ap (λ (x : Outcome). judge (x .verdict) (x .unit) at) (sym h) ∙ ap (λ (v : Verdicts). judge (toldAnswer v) (d .unit) at) q
+      ap (λ (x : Outcome). judge (x .verdict) (x .unit) at) (sym h) ∙ ap (λ (v : Verdict). judge (toldVerdict v) (d .unit) at) q
 
   pub outcome-denied : (e : Refusal) → d .answer ≡ Denied e → accept o s at ≡ refused (numberOf e)
-  unfolding accept judge told toldAnswer
+  unfolding accept judge told toldVerdict
   outcome-denied e q =
-      ap (λ (x : Outcome). judge (x .verdict) (x .unit) at) (sym h) ∙ ap (λ (v : Verdicts). judge (toldAnswer v) (d .unit) at) q
+      ap (λ (x : Outcome). judge (x .verdict) (x .unit) at) (sym h) ∙ ap (λ (v : Verdict). judge (toldVerdict v) (d .unit) at) q
 
 -- the unit of an outcome
 pub outcome-unit : {o : Outcome} (d : Done) → told d ≡ o → o .unit ≡ d .unit
@@ -72,8 +73,8 @@ unfolding told
 outcome-unit d h = ap (λ (x : Outcome). x .unit) (sym h)
 
 outcome-verdict : {o : Outcome} (d : Done) → told d ≡ o → d .answer ≡ Taken → o .verdict ≡ accepted
-unfolding told toldAnswer
-outcome-verdict d h q = ap (λ (x : Outcome). x .verdict) (sym h) ∙ ap toldAnswer q
+unfolding told toldVerdict
+outcome-verdict d h q = ap (λ (x : Outcome). x .verdict) (sym h) ∙ ap toldVerdict q
 
 -- ---- a rented unit
 
@@ -132,8 +133,8 @@ tells-same {o} {q} {out} {after} {n} e w = subst (λ (x : Out Ready). Tells x ou
 module _ (u : Unit) (s : List ℕ) (at : ℕ) where
   module _ (from to : ℕ) (h : sheet s at ≡ got (part s from to) to) where
     -- the request
-    pub close-asks : {out after : List ℕ} {n : ℕ} → to ≡ length s → (text : List ℕ) × Asks u (part s from to) text
-        × Printed text out n after → Tells (close u s at) out n after
+    pub close-asks : {out after : List ℕ} {n : ℕ} → to ≡ length s → Replies u (part s from to) out n after
+        → Tells (close u s at) out n after
     unfolding close pure Line
     close-asks q w =
         let e : close u s at ≡ got (record { unit = u; request = part s from to }) to = next sheet _ s at h
@@ -147,24 +148,24 @@ module _ (u : Unit) (s : List ℕ) (at : ℕ) where
 
     -- the settings
     module _ (d : Done) (t : told d ≡ set u (take (to - from) (drop from s))) where
-      pub settle-taken : d .answer ≡ Taken → settle u s at ≡ close (d .unit) s to
-      unfolding settle part
-      settle-taken q = next sheet _ s at h ∙ next (accept (set u (part s from to))) _ s to (outcome-taken s to d t q)
+      pub apply-taken : d .answer ≡ Taken → apply u s at ≡ close (d .unit) s to
+      unfolding apply part
+      apply-taken q = next sheet _ s at h ∙ next (accept (set u (part s from to))) _ s to (outcome-taken s to d t q)
 
-      pub settle-denied : (e : Refusal) → d .answer ≡ Denied e → settle u s at ≡ refused (numberOf e)
-      unfolding settle part
-      settle-denied e q = next sheet _ s at h ∙ stops (accept (set u (part s from to))) _ s to (outcome-denied s to d t e q)
+      pub apply-denied : (e : Refusal) → d .answer ≡ Denied e → apply u s at ≡ refused (numberOf e)
+      unfolding apply part
+      apply-denied e q = next sheet _ s at h ∙ stops (accept (set u (part s from to))) _ s to (outcome-denied s to d t e q)
 
   pub close-stops : (n : ℕ) → sheet s at ≡ refused n → close u s at ≡ refused n
   unfolding close
   close-stops n h = stops sheet _ s at h
 
-  pub settle-stops : (n : ℕ) → sheet s at ≡ refused n → settle u s at ≡ refused n
-  unfolding settle
-  settle-stops n h = stops sheet _ s at h
+  pub apply-stops : (n : ℕ) → sheet s at ≡ refused n → apply u s at ≡ refused n
+  unfolding apply
+  apply-stops n h = stops sheet _ s at h
 
 module _ (n t : ℕ) (s : List ℕ) (at : ℕ) (d : Done) (h : told d ≡ rent (newUnit n) t) where
-  pub hire-taken : d .answer ≡ Taken → hire n t s at ≡ settle (d .unit) s at
+  pub hire-taken : d .answer ≡ Taken → hire n t s at ≡ apply (d .unit) s at
   unfolding hire
   hire-taken q = next (accept (rent (newUnit n) t)) _ s at (outcome-taken s at d h q)
 
@@ -221,7 +222,7 @@ module _ (unit t : ℕ) (s disks short : List ℕ) where
   pub back-never : (e : Refusal) (disks′ short′ : List ℕ) → Received (planSheet unit t s 0) (length s) disks short (NoPlan e) disks′ short′
       → unit < 2 ^ 32 → t < 2 ^ 32 → length disks ≡ blocksMost → length short ≡ blocksMost → (p : Plan) → InRange p → 0 < t
       → s ≡ planBytes unit t p → ⊥
-  unfolding toldPlan settledOf heads roomFor
+  unfolding toldPlan ifRoom heads roomFor
   back-never e disks′ short′ w a b m n p r l q =
       let x : planSheet unit t s 0 ≡ got p (length (planBytes unit t p)) = ap (λ (z : List ℕ). planSheet unit t z 0) q
       ∙ sheet-read unit t p a l b r in
@@ -229,7 +230,7 @@ module _ (unit t : ℕ) (s disks short : List ℕ) where
       ≡ true = and-both _ _ (le-leb (length (p .disks)) (length disks) (omega (arith, r .few)))
       (le-leb (length (p .short)) (length short) (omega (arith, r .few, r .size-to))) in
       let y : refused (numberOf e) ≡ heads (got p (length (planBytes unit t p))) = w .answer
-      ∙ ap (λ (o : Out Plan). heads (settledOf o disks short)) x ∙ ap heads (pick-true _ _ room) in
+      ∙ ap (λ (o : Out Plan). heads (ifRoom o disks short)) x ∙ ap heads (pick-true _ _ room) in
       let z : _≡_ {A = ℕ} 0 1 = cc in
       omega arith
 
@@ -244,8 +245,7 @@ unsent {u} {s} room (longer p i w l q) = absurd (omega (arith, longest (u .numbe
 module _ {u : Unit} {s out after : List ℕ} {buf buf′ : List ℕ} {m : ℕ} where
   pub asks-shown : {r : Requested} {k n t : ℕ} → Replied u s out r after → r .answer ≡ Length n → 0 < tenancyOf u
       → k ≡ u .number → t ≡ tenancyOf u
-      → ((p : Plan) → InRange p → 0 < t → take n after ≡ planBytes k t p → Printed (planLine k t p) buf m buf′)
-      → (text : List ℕ) × Asks u s text × Printed text buf m buf′
+      → Shows k t (take n after) buf m buf′ → Replies u s buf m buf′
   unfolding answerLine
   asks-shown {r} {k} {n} {t} a q l i e f =
       let w = answered-sheet (replied-as a q) in
@@ -262,7 +262,7 @@ module _ {u : Unit} {s out after : List ℕ} {buf buf′ : List ℕ} {m : ℕ} w
       )
 
   pub asks-refused : {r : Requested} {e : Refusal} → Replied u s out r after → r .answer ≡ NotWritten e → planMost ≤ length out
-      → Printed (spoken (Refused (numberOf e))) buf m buf′ → (text : List ℕ) × Asks u s text × Printed text buf m buf′
+      → Printed (spoken (Refused (numberOf e))) buf m buf′ → Replies u s buf m buf′
   asks-refused {r} {e} a q room p = (spoken (Refused (numberOf e)), unsent {u = u} room (answered-none (replied-as a q)), p)
 
 -- ---- there is no second answer

@@ -2,8 +2,8 @@
 --     bench-more     bytes behind an input that is too long
 --     bench-cut      the first bytes of an input are enough
 use mathlib.Core.Path.{_≡_, refl, sym, ap, _∙_, subst}
-use mathlib.Core.List.{List, [], _++_}
-use mathlib.Core.Logic.{_⊎_, inl, inr}
+use mathlib.Core.List.{List, _++_}
+use mathlib.Core.Logic.{inl, inr}
 use Prim.Native.Nat.{ℕ, _+_, _≤_, _<_}
 use native.Mathlib.Omega.{arith}
 use borrow.Author.Tests.{ne-eqb, leb-true, leb-false}
@@ -16,13 +16,13 @@ use Rattle.basics.proofs.Tests.{by-cases}
 use Rattle.field.specs.Field.{number, end}
 use Rattle.field.specs.Sheet.{Out, got, refused, Parser, andThen, _>>=_, _>>_, pure}
 use Rattle.unit.specs.declared.Unit.{Unit}
-use Rattle.unit.specs.Life.{Verdict, accepted, Outcome, rent, set}
+use Rattle.unit.specs.Life.{Verdict, accepted, rent, set}
 use Rattle.unit.specs.Life.{refused as denied}
 use Rattle.unit.specs.Unit.{newUnit}
 use Rattle.stream.specs.Frame.{sheet}
-use Rattle.stream.proofs.Steady.{Same, Steady, number-steady, steady-sheet}
+use Rattle.stream.proofs.Steady.{Same, number-steady, steady-sheet}
 use Rattle.stream.proofs.Reach.{Far, number-far, sheet-far}
-use Rattle.console.specs.Bench.{inputMost, Ready, judge, accept, close, settle, hire, benchInput}
+use Rattle.console.specs.Bench.{inputMost, Ready, judge, accept, close, apply, hire, benchInput}
 
 module _ (s r : List ℕ) where
   -- a reader that does not reach the end of the bytes gives the same with more behind them
@@ -77,9 +77,9 @@ module _ (s r : List ℕ) where
     judge-at accepted u w at e h = let q : at ≡ e = cc in sym q
     judge-at (denied n) u w at e h = absurd (let z : _≡_ {A = ℕ} 0 1 = cc in omega arith)
 
-    settle-agrees : (u : Unit) (at : ℕ) → at ≤ 10 → settle u (s ++ r) at ≡ settle u s at
-    unfolding settle accept
-    settle-agrees u at l =
+    apply-agrees : (u : Unit) (at : ℕ) → at ≤ 10 → apply u (s ++ r) at ≡ apply u s at
+    unfolding apply accept
+    apply-agrees u at l =
         bind-agrees sheet _ at (sheet-agrees at (omega arith)) λ x e h.
         bind-agrees (accept (set u x)) _ e refl λ v f j.
         close-agrees v f
@@ -94,7 +94,7 @@ module _ (s r : List ℕ) where
     unfolding hire accept
     hire-agrees n t at l =
         bind-agrees (accept (rent (newUnit n) t)) _ at refl λ v f j.
-        settle-agrees v f (omega (arith, judge-at (rent (newUnit n) t .verdict) (rent (newUnit n) t .unit) v at f j))
+        apply-agrees v f (omega (arith, judge-at (rent (newUnit n) t .verdict) (rent (newUnit n) t .unit) v at f j))
 
     pub bench-more : benchInput (s ++ r) 0 ≡ benchInput s 0
     unfolding benchInput

@@ -1,10 +1,10 @@
 -- The bench's input and its line.
 --     accept                 the unit that a call hands back, or its refusal; nothing is read
 --     benchInput             all of the input: unit and tenancy, and then
---     hire, settle, close    the rent; the settings sheet; the request sheet and the end of the input
+--     hire, apply, close    the rent; the settings sheet; the request sheet and the end of the input
 --     answerLine, Asks, Line the line of an answer; of a request; of an input
 --     Tells                  the promise: that line stands in the buffer
-use Prim.Native.Nat.{ℕ, _+_, _<_}
+use Prim.Native.Nat.{ℕ, _+_}
 use Rattle.basics.specs.Limits.{requestMost}
 use mathlib.Core.Path.{_≡_}
 use mathlib.Core.List.{List}
@@ -16,7 +16,6 @@ use Rattle.unit.specs.declared.Unit.{Unit}
 use Rattle.unit.specs.Life.{Verdict, accepted, Outcome, rent, set}
 use Rattle.unit.specs.Life.{refused as denied}
 use Rattle.unit.specs.Request.{askedOf}
-use Rattle.unit.specs.Sound.{Sound}
 use Rattle.unit.specs.Unit.{newUnit, tenancyOf}
 use Rattle.line.specs.declared.Word.the-variants.{Refused}
 use Rattle.stream.specs.Frame.{sheet}
@@ -47,8 +46,8 @@ close u = do
   pure (record { unit = u; request = s })
 
 -- the settings are applied before the second length is read
-unfoldable pub settle : Unit → Parser Ready
-settle u = do
+unfoldable pub apply : Unit → Parser Ready
+apply u = do
   s ← sheet
   v ← accept (set u s)
   close v
@@ -57,7 +56,7 @@ settle u = do
 unfoldable pub hire : ℕ → ℕ → Parser Ready
 hire n t = do
   u ← accept (rent (newUnit n) t)
-  settle u
+  apply u
 
 -- unit, tenancy, settings sheet, request sheet: the first refusal met stands
 unfoldable pub benchInput : Parser Ready
@@ -87,8 +86,3 @@ pub record Tells (o : Out Ready) (out : List ℕ) (n : ℕ) (after : List ℕ) :
   pub text : List ℕ
   pub says : Line o text
   pub printed : Printed text out n after
-
--- a rented unit, of those that come from New and the calls
-pub record Rented (u : Unit) : Type 0 where
-  pub sound : Sound u
-  pub tenancy : 0 < tenancyOf u

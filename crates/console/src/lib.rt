@@ -4,32 +4,25 @@ use basics::PLAN_MOST;
 use basics::REQUEST_MOST;
 use field::Field;
 use field::Refusal;
+use field::Verdict;
 use field::Written;
 use line::Line;
 use line::refuse;
 use stream::Span;
 use stream::sheet;
 use unit::Unit;
-ghost use mathlib.Core.Path.{_≡_};
-ghost use mathlib.Core.List.{List};
-ghost use Prim.Native.Nat.{ℕ, _<_};
-ghost use Rattle.plan.specs.Plan.{Plan};
-ghost use Rattle.plan.specs.Range.{InRange};
-ghost use Rattle.plan.specs.Draft.{planBytes};
-ghost use Rattle.line.specs.Line.{planLine};
-ghost use Rattle.line.specs.Printed.{Printed};
-ghost use Rattle.console.specs.Bench.{benchInput, Tells, Asks, Rented};
+ghost use Rattle.console.specs.Bench.{benchInput, Tells};
 ghost use Rattle.console.specs.Bench.{hire as hireOf};
-ghost use Rattle.console.specs.Bench.{settle as settleOf};
+ghost use Rattle.console.specs.Bench.{apply as applyOf};
 ghost use Rattle.console.specs.Bench.{close as closeOf};
+ghost use Rattle.console.specs.Parts.{Rented, Shows, Replies};
 
 // The bytes of the longest input: unit and tenancy, and twice a length and a sheet.
 pub const INPUT_MOST: usize = 5 + 5 + (2 + REQUEST_MOST) + (2 + REQUEST_MOST);
 
 // The line of a plan sheet, from the sheet itself.
 fn show(unit: u32, tenancy: u32, sheet: &[u8], line: &mut Line) -> usize
-    ensures { λ r. ⌜ ((p : Plan) → InRange p → 0 < tenancy → now (sheet .entry) ≡ planBytes unit tenancy p
-        → Printed (planLine unit tenancy p) (now (line .entry)) r (now (line .exit))) ⌝ }
+    ensures { λ r. ⌜ Shows unit tenancy (now (sheet .entry)) (now (line .entry)) r (now (line .exit)) ⌝ }
 {
     let mut disks = [0u8; BLOCKS];
     let mut short = [0u16; BLOCKS];
@@ -46,7 +39,7 @@ fn show(unit: u32, tenancy: u32, sheet: &[u8], line: &mut Line) -> usize
 // The request, with room for the longest plan.
 fn ask(u: Unit, request: &[u8], line: &mut Line) -> usize
     requires { ⌜ Rented u ⌝ }
-    ensures { λ r. ⌜ ((text : List ℕ) × Asks u (now (request .entry)) text × Printed text (now (line .entry)) r (now (line .exit))) ⌝ }
+    ensures { λ r. ⌜ Replies u (now (request .entry)) (now (line .entry)) r (now (line .exit)) ⌝ }
 {
     let number = u.number();
     let tenancy = u.tenancy();
@@ -77,20 +70,20 @@ fn close(u: Unit, input: &[u8], at: usize, line: &mut Line) -> usize
 }
 
 // The settings, and then what is behind them.
-fn settle(u: Unit, input: &[u8], at: usize, line: &mut Line) -> usize
+fn apply(u: Unit, input: &[u8], at: usize, line: &mut Line) -> usize
     requires { ⌜ Rented u ⌝ }
-    ensures { λ r. ⌜ Tells (settleOf u (now (input .entry)) at) (now (line .entry)) r (now (line .exit)) ⌝ }
+    ensures { λ r. ⌜ Tells (applyOf u (now (input .entry)) at) (now (line .entry)) r (now (line .exit)) ⌝ }
 {
     match sheet(input, at) {
         Span::Part(from, to) => {
             let done = u.settings(&input[from..to]);
             let verdict = done.answer;
             match verdict {
-                unit::Answer::Accepted => {
+                Verdict::Accepted => {
                     let v = done.unit;
                     close(v, input, to, line)
                 }
-                unit::Answer::Refused(e) => refuse(e, line),
+                Verdict::Refused(e) => refuse(e, line),
             }
         }
         Span::Refused(e) => refuse(e, line),
@@ -104,11 +97,11 @@ fn hire(number: u32, tenancy: u32, input: &[u8], at: usize, line: &mut Line) -> 
     let done = Unit::new(number).rent(tenancy);
     let verdict = done.answer;
     match verdict {
-        unit::Answer::Accepted => {
+        Verdict::Accepted => {
             let u = done.unit;
-            settle(u, input, at, line)
+            apply(u, input, at, line)
         }
-        unit::Answer::Refused(e) => refuse(e, line),
+        Verdict::Refused(e) => refuse(e, line),
     }
 }
 

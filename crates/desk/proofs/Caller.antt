@@ -27,22 +27,22 @@ use Rattle.settings.proofs.Writing.{draft-either}
 use Rattle.request.specs.Draft.{checked, requestDraft}
 use Rattle.plan.specs.Plan.{Plan, planSheet}
 use Rattle.plan.proofs.Known.{numbered-plan}
-use Rattle.plan.specs.Receive.{roomFor, settle, heads, disksLeft}
+use Rattle.plan.specs.Receive.{roomFor, ifRoom, heads, disksLeft}
 use Rattle.basics.specs.Buffer.{over}
 use Rattle.basics.proofs.Buffer.{over-front}
 use Rattle.lent.specs.Numbers.{bytesOf, numbers, broken}
-use Rattle.lent.specs.Packed.{writerAnswer, readerAnswer, refusalIn, lengthIn}
-use Rattle.desk.specs.Desk.{settingsDraftOfBytes, requestDraftOfBytes, Exported, planOf, setLeft, PlanRead}
+use Rattle.lent.specs.Packed.{lengths, writerAnswer, readerAnswer, refusalIn, lengthIn}
+use Rattle.desk.specs.Desk.{settingsDraftOfBytes, requestDraftOfBytes, Exported, planIfRoom, setLeft, PlanRead}
 use Rattle.lent.proofs.Numbers.{spell-length, numbers-length, numbers-spell}
 use Rattle.lent.proofs.Packed.{Unpacked, written-unpacks, plan-unpacks, refusal-unpacks}
-use Rattle.desk.proofs.Reading.{Packable, plan-of-packable}
+use Rattle.desk.proofs.Reading.{Packable, plan-packable-room}
 use Rattle.desk.proofs.Writing.{settings-short, request-short}
 
 -- ---- the writers' answer
 
--- a length below 2 ^ 32, or one of the table's refusals
+-- a length of 32 bits, or one of the table's refusals
 unfoldable pub Answerable : Draft → Type 0
-Answerable (sheet bs) = length bs < 2 ^ 32
+Answerable (sheet bs) = length bs < lengths
 Answerable (none e) = Known e
 
 -- no refusal and the length, or one of the table's refusals, which is not 0, and no length
@@ -108,7 +108,7 @@ safe-request unit t n ms =
     (safe-pick _ 6 _ (omega arith, omega arith)
     (safe-pick _ 6 _ (omega arith, omega arith) (safe-pick _ 6 _ (omega arith, omega arith) (safe-checked n ms _ (safe-sheet _)))))
 
-draft-answerable : (d : Draft) → ((bs : List ℕ) → d ≡ sheet bs → length bs < 2 ^ 32) → Safe d → Answerable d
+draft-answerable : (d : Draft) → ((bs : List ℕ) → d ≡ sheet bs → length bs < lengths) → Safe d → Answerable d
 unfolding Answerable Safe
 draft-answerable (sheet bs) f g = f bs refl
 draft-answerable (none e) f g = g e refl
@@ -129,10 +129,10 @@ written-accepted (refused e) r h z = absurd (omega (arith, h .0 .0, h .1, z))
 
 -- ---- the plan reader's answer
 
-settle-answers : (o : Out Plan) (disks short : List ℕ) → Answers o → Answers (settle o disks short)
-unfolding settle Answers
-settle-answers (got p e) disks short h = pick-elim Answers _ _ _ (λ _. tt) (λ _. (omega arith, omega arith))
-settle-answers (refused n) disks short h = h
+room-answers : (o : Out Plan) (disks short : List ℕ) → Answers o → Answers (ifRoom o disks short)
+unfolding ifRoom Answers
+room-answers (got p e) disks short h = pick-elim Answers _ _ _ (λ _. tt) (λ _. (omega arith, omega arith))
+room-answers (refused n) disks short h = h
 
 refused-known : (o : Out Plan) (n : ℕ) → o ≡ refused n → Answers o → Known n
 unfolding Answers
@@ -144,23 +144,23 @@ got-unless (refused n) f = absurd (f n refl)
 
 -- Q, R and m of what the sheet says, and no refusal
 pub plan-taken : (unit t : ℕ) (s disks set : List ℕ) (r : ℕ) (disks′ set′ : List ℕ) (p : Plan) (e : ℕ) → Bytes s
-    → PlanRead unit t s disks set r disks′ set′ → planOf unit t s disks set ≡ got p e
+    → PlanRead unit t s disks set r disks′ set′ → planIfRoom unit t s disks set ≡ got p e
     → Unpacked (length (p .disks)) (p .time) (length (p .short)) r
 unfolding heads readerAnswer
 plan-taken unit t s disks set r disks′ set′ p e b w h =
-    let g : Packable p = plan-of-packable unit t s disks set p e b h in
+    let g : Packable p = plan-packable-room unit t s disks set p e b h in
     subst (Unpacked (length (p .disks)) (p .time) (length (p .short))) (sym (w .answer ∙ ap (λ (o : Out Plan). readerAnswer (heads o)) h))
     (plan-unpacks (length (p .disks)) (p .time) (length (p .short)) (omega (arith, g .blocks)) (omega (arith, g .time))
     (omega (arith, g .size)))
 
 -- a refusal of the plan sheet is one of the table's, and its number is all that is answered
-pub plan-known : (unit t : ℕ) (s disks set : List ℕ) (n : ℕ) → planOf unit t s disks set ≡ refused n → Known n
-unfolding planOf
+pub plan-known : (unit t : ℕ) (s disks set : List ℕ) (n : ℕ) → planIfRoom unit t s disks set ≡ refused n → Known n
+unfolding planIfRoom
 plan-known unit t s disks set n h =
-    refused-known _ n h (settle-answers (planSheet unit t s 0) disks (numbers 2 set) (numbered-plan unit t .answers s 0))
+    refused-known _ n h (room-answers (planSheet unit t s 0) disks (numbers 2 set) (numbered-plan unit t .answers s 0))
 
 pub plan-refused : (unit t : ℕ) (s disks set : List ℕ) (r : ℕ) (disks′ set′ : List ℕ) (n : ℕ)
-    → PlanRead unit t s disks set r disks′ set′ → planOf unit t s disks set ≡ refused n → Known n × (r ≡ n) × (refusalIn r ≡ n)
+    → PlanRead unit t s disks set r disks′ set′ → planIfRoom unit t s disks set ≡ refused n → Known n × (r ≡ n) × (refusalIn r ≡ n)
 unfolding heads readerAnswer
 plan-refused unit t s disks set r disks′ set′ n w h =
     let k : Known n = plan-known unit t s disks set n h in
@@ -169,18 +169,18 @@ plan-refused unit t s disks set r disks′ set′ n w h =
 
 -- 0 in bits 0 to 7 says accepted, and nothing else does
 pub plan-accepted : (unit t : ℕ) (s disks set : List ℕ) (r : ℕ) (disks′ set′ : List ℕ)
-    → PlanRead unit t s disks set r disks′ set′ → refusalIn r ≡ 0 → (p : Plan) × (e : ℕ) × (planOf unit t s disks set ≡ got p e)
+    → PlanRead unit t s disks set r disks′ set′ → refusalIn r ≡ 0 → (p : Plan) × (e : ℕ) × (planIfRoom unit t s disks set ≡ got p e)
 plan-accepted unit t s disks set r disks′ set′ w z =
-    got-unless (planOf unit t s disks set)
+    got-unless (planIfRoom unit t s disks set)
     (λ n h. let u : _ = plan-refused unit t s disks set r disks′ set′ n w h in omega (arith, u .0 .0, u .2, z))
 
 -- the short set is what the first bytes of the lent list say
 pub set-taken : (unit t : ℕ) (s disks set : List ℕ) (r : ℕ) (disks′ set′ : List ℕ) (p : Plan) (e : ℕ) → Bytes s
-    → PlanRead unit t s disks set r disks′ set′ → planOf unit t s disks set ≡ got p e
+    → PlanRead unit t s disks set r disks′ set′ → planIfRoom unit t s disks set ≡ got p e
     → numbers 2 (take (2 * length (p .short)) set′) ≡ p .short
 unfolding setLeft
 set-taken unit t s disks set r disks′ set′ p e b w h =
-    let g : Packable p = plan-of-packable unit t s disks set p e b h in
+    let g : Packable p = plan-packable-room unit t s disks set p e b h in
     let held : set′ ≡ over (spellAll (bytesOf 2) (p .short)) set = w .members ∙ ap (λ (o : Out Plan). setLeft o set) h in
     ap (λ (x : List ℕ). numbers 2 (take (2 * length (p .short)) x)) held
     ∙ ap (numbers 2) (over-front (spellAll (bytesOf 2) (p .short)) set (2 * length (p .short)) (spell-length 2 (p .short)))
@@ -195,11 +195,11 @@ pub record Handed (p : Plan) (r : ℕ) (disks set : List ℕ) : Type 0 where
 pub plan-handed : {unit t : ℕ} {s disks set : List ℕ} {r : ℕ} {disks′ set′ : List ℕ} (p : Plan) (e : ℕ) → Bytes s
     → planSheet unit t s 0 ≡ got p e → length (p .disks) ≤ length disks → 2 * length (p .short) ≤ length set
     → PlanRead unit t s disks set r disks′ set′ → Handed p r disks′ set′
-unfolding planOf settle roomFor disksLeft
+unfolding planIfRoom ifRoom roomFor disksLeft
 plan-handed {unit} {t} {s} {disks} {set} {r} {disks′} {set′} p e b h l m w =
     let fits : length (p .short) ≤ length (numbers 2 set) = omega (arith, numbers-length 2 set) in
-    let q : planOf unit t s disks set ≡ got p e =
-    ap (λ (o : Out Plan). settle o disks (numbers 2 set)) h ∙ pick-true _ _ (and-both _ _ (le-leb _ _ l) (le-leb _ _ fits)) in
+    let q : planIfRoom unit t s disks set ≡ got p e =
+    ap (λ (o : Out Plan). ifRoom o disks (numbers 2 set)) h ∙ pick-true _ _ (and-both _ _ (le-leb _ _ l) (le-leb _ _ fits)) in
     record {
       answer = plan-taken unit t s disks set r disks′ set′ p e b w q;
       blocks = ap (take (length (p .disks))) (w .blocks ∙ ap (λ (o : Out Plan). disksLeft o disks) q)

@@ -11,6 +11,7 @@ use lib.ListN.{length, take, drop, length-append}
 use lib.Dec.{leb}
 use lib.Seq.{take-take, length-take-le}
 use Rattle.number.specs.Bytes.{Bytes}
+use Rattle.basics.specs.Limits.{blocksMost, timeMost}
 use Rattle.basics.specs.Choice.{pick}
 use Rattle.basics.proofs.Choice.{pick-true, pick-false}
 use Rattle.basics.proofs.Tests.{by-cases, both}
@@ -24,24 +25,24 @@ use Rattle.plan.specs.declared.Answer.{Answer}
 use Rattle.plan.specs.declared.Answer.the-variants.{Accepted, Refused}
 use Rattle.plan.specs.Plan.{Plan, planSheet}
 use Rattle.plan.specs.Range.{InRange}
-use Rattle.plan.specs.Receive.{roomFor, settle, heads, disksLeft, shortLeft, Received}
+use Rattle.plan.specs.Receive.{roomFor, ifRoom, heads, disksLeft, shortLeft, Received}
 use Rattle.basics.specs.Buffer.{over}
 use Rattle.plan.specs.Told.{toldPlan}
 use Rattle.plan.proofs.Reading.{any-most}
 use Rattle.basics.proofs.Buffer.{over-front}
 use Rattle.plan.proofs.RoundTrip.{sheet-exact}
 use Rattle.lent.specs.Numbers.{bytesOf, numbers, Room}
-use Rattle.lent.specs.Packed.{readerAnswer, FitsBits}
-use Rattle.desk.specs.Desk.{planOf, setLeft, PlanRead}
+use Rattle.lent.specs.Packed.{packRefused, readerAnswer, FitsBits}
+use Rattle.desk.specs.Desk.{planIfRoom, setLeft, PlanRead}
 use Rattle.lent.proofs.Numbers.{numbers-length}
 
 -- ---- how large the values of an accepted sheet are
 
 -- a plan whose values have room in their bits
 pub record Packable (p : Plan) : Type 0 where
-  pub blocks : length (p .disks) ≤ 1024
-  pub time : p .time ≤ 1125000000
-  pub size : length (p .short) ≤ 1024
+  pub blocks : length (p .disks) ≤ blocksMost
+  pub time : p .time ≤ timeMost
+  pub size : length (p .short) ≤ blocksMost
   pub members : All (λ (b : ℕ). b < 256 ^ 2) (p .short)
 
 below-all : (floor high : ℕ) (vs : List ℕ) → high < 256 ^ 2 → Rises floor high vs → All (λ (b : ℕ). b < 256 ^ 2) vs
@@ -54,7 +55,7 @@ plan-packable unit t s p e b h =
     let r : InRange p = sheet-exact s b unit t p e h .1 in
     record {
       blocks = r .few;
-      time = omega (arith, r .time-to, any-most (length (p .disks)) 1125000000);
+      time = omega (arith, r .time-to, any-most (length (p .disks)) timeMost);
       size = omega (arith, r .size-to, r .few);
       members = below-all 0 (length (p .disks) - 1) (p .short) (omega (arith, r .few)) (r .blocks);
     }
@@ -67,56 +68,57 @@ leb-same m x y f g =
     (λ t. le-leb m x (g (leb-true _ _ t)) ∙ sym t)
     (λ n. by-cases (leb m x) (λ t. t ∙ sym (le-leb m y (f (leb-true _ _ t)))) (λ k. k ∙ sym n))
 
-settle-same : (o : Out Plan) (disks a b : List ℕ)
+room-alike : (o : Out Plan) (disks a b : List ℕ)
     → ((p : Plan) (e : ℕ) → o ≡ got p e → leb (length (p .short)) (length a) ≡ leb (length (p .short)) (length b))
-    → settle o disks a ≡ settle o disks b
-unfolding settle roomFor
-settle-same (refused n) disks a b h = refl
-settle-same (got p e) disks a b h =
+    → ifRoom o disks a ≡ ifRoom o disks b
+unfolding ifRoom roomFor
+room-alike (refused n) disks a b h = refl
+room-alike (got p e) disks a b h =
     ap (λ (x : Bool). pick (leb (length (p .disks)) (length disks) && x) (got p e) (refused 11)) (h p e refl)
 
 -- a list of 1,024 numbers has room for as many as any longer one
 pub room-same : (unit t : ℕ) (s disks short set : List ℕ) → Bytes s → Room (length set / 2) (length short)
-    → settle (planSheet unit t s 0) disks short ≡ planOf unit t s disks set
-unfolding planOf
+    → ifRoom (planSheet unit t s 0) disks short ≡ planIfRoom unit t s disks set
+unfolding planIfRoom
 room-same unit t s disks short set b r =
-    settle-same (planSheet unit t s 0) disks short (numbers 2 set)
+    room-alike (planSheet unit t s 0) disks short (numbers 2 set)
     (λ p e h.
-    let k : length (p .short) ≤ 1024 = plan-packable unit t s p e b h .size in
+    let k : length (p .short) ≤ blocksMost = plan-packable unit t s p e b h .size in
     let n : length (numbers 2 set) ≡ length set / 2 = numbers-length 2 set in
     leb-same (length (p .short)) (length short) (length (numbers 2 set)) (λ x. omega (arith, r .below))
     (λ x. r .enough (length (p .short)) k (omega arith)))
 
--- what was settled stands on the sheet
-settled-got : (o : Out Plan) (disks short : List ℕ) (p : Plan) (e : ℕ) → settle o disks short ≡ got p e → o ≡ got p e
-unfolding settle
-settled-got (refused n) disks short p e h = absurd (let z : _≡_ {A = ℕ} 0 1 = cc in omega arith)
-settled-got (got x n) disks short p e h =
+-- what is handed out stands on the sheet
+room-got : (o : Out Plan) (disks short : List ℕ) (p : Plan) (e : ℕ) → ifRoom o disks short ≡ got p e → o ≡ got p e
+unfolding ifRoom
+room-got (refused n) disks short p e h = absurd (let z : _≡_ {A = ℕ} 0 1 = cc in omega arith)
+room-got (got x n) disks short p e h =
     by-cases (roomFor x disks short)
     (λ t. sym (pick-true _ _ t) ∙ h)
     (λ f. let v : refused 11 ≡ got p e = sym (pick-false _ _ f) ∙ h in absurd (let z : _≡_ {A = ℕ} 0 1 = cc in omega arith))
 
-pub plan-of-packable : (unit t : ℕ) (s disks set : List ℕ) (p : Plan) (e : ℕ) → Bytes s → planOf unit t s disks set ≡ got p e → Packable p
-unfolding planOf
-plan-of-packable unit t s disks set p e b h = plan-packable unit t s p e b (settled-got (planSheet unit t s 0) disks (numbers 2 set) p e h)
+pub plan-packable-room : (unit t : ℕ) (s disks set : List ℕ) (p : Plan) (e : ℕ) → Bytes s → planIfRoom unit t s disks set ≡ got p e
+    → Packable p
+unfolding planIfRoom
+plan-packable-room unit t s disks set p e b h = plan-packable unit t s p e b (room-got (planSheet unit t s 0) disks (numbers 2 set) p e h)
 
 -- ---- the sheet is accepted
 
 pub record Plans (unit t : ℕ) (s disks short : List ℕ) (h : Head) : Type 0 where
   pub plan : Plan
   pub end : ℕ
-  pub is : settle (planSheet unit t s 0) disks short ≡ got plan end
+  pub is : ifRoom (planSheet unit t s 0) disks short ≡ got plan end
   pub range : Packable plan
   pub room : length (plan .short) ≤ length short
   pub blocks : h .blocks ≡ length (plan .disks)
   pub time : h .time ≡ plan .time
   pub size : h .size ≡ length (plan .short)
 
-settled : (unit t : ℕ) (s disks short : List ℕ) (h : Head) (n : ℕ) (o : Out Plan) → Bytes s → planSheet unit t s 0 ≡ o
-    → got h n ≡ heads (settle o disks short) → Plans unit t s disks short h
-unfolding settle roomFor heads
-settled unit t s disks short h n (refused m) b q w = absurd (let o : _≡_ {A = ℕ} 0 1 = cc in omega arith)
-settled unit t s disks short h n (got p e) b q w =
+plans-of : (unit t : ℕ) (s disks short : List ℕ) (h : Head) (n : ℕ) (o : Out Plan) → Bytes s → planSheet unit t s 0 ≡ o
+    → got h n ≡ heads (ifRoom o disks short) → Plans unit t s disks short h
+unfolding ifRoom roomFor heads
+plans-of unit t s disks short h n (refused m) b q w = absurd (let o : _≡_ {A = ℕ} 0 1 = cc in omega arith)
+plans-of unit t s disks short h n (got p e) b q w =
     by-cases (leb (length (p .disks)) (length disks) && leb (length (p .short)) (length short))
     (λ y.
     let x : pick (leb (length (p .disks)) (length disks) && leb (length (p .short)) (length short)) (got p e) (refused 11)
@@ -126,7 +128,7 @@ settled unit t s disks short h n (got p e) b q w =
     record {
       plan = p;
       end = e;
-      is = ap (λ (z : Out Plan). settle z disks short) q ∙ x;
+      is = ap (λ (z : Out Plan). ifRoom z disks short) q ∙ x;
       range = plan-packable unit t s p e b q;
       room = leb-true _ _ (both (leb (length (p .disks)) (length disks)) _ y .1);
       blocks = ap (λ (z : Head). z .blocks) i;
@@ -164,7 +166,7 @@ module _ {unit t : ℕ} {s disks short : List ℕ} {a : Answer} {disks′ short�
     (g : Received (planSheet unit t s 0) (length s) disks short a disks′ short′) where
   pub accepted : {h : Head} → a ≡ Accepted h → Plans unit t s disks short h
   unfolding toldPlan
-  accepted {h} e = settled unit t s disks short h (length s) (planSheet unit t s 0) b refl (ap (toldPlan (length s)) (sym e) ∙ g .answer)
+  accepted {h} e = plans-of unit t s disks short h (length s) (planSheet unit t s 0) b refl (ap (toldPlan (length s)) (sym e) ∙ g .answer)
 
   -- the two lists and the answer
   pub read-accepted : (set blocks : List ℕ) {h : Head} {r : ℕ} {after : List ℕ} → a ≡ Accepted h → Room (length set / 2) (length short)
@@ -173,7 +175,7 @@ module _ {unit t : ℕ} {s disks short : List ℕ} {a : Answer} {disks′ short�
   unfolding toldPlan setLeft shortLeft
   read-accepted set blocks {h} {r} {after} e room held answer left =
       let p : Plans unit t s disks short h = accepted e in
-      let same : settle (planSheet unit t s 0) disks short ≡ planOf unit t s disks set = room-same unit t s disks short set b room in
+      let same : ifRoom (planSheet unit t s 0) disks short ≡ planIfRoom unit t s disks set = room-same unit t s disks short set b room in
       let members : short′ ≡ over (p .plan .short) short = g .members ∙ ap (λ (o : Out Plan). shortLeft o short) (p .is) in
       let first : take (h .size) blocks ≡ p .plan .short =
       sym (take-take (h .size) (length short) blocks (omega (arith, p .size, p .room)))
@@ -186,14 +188,15 @@ module _ {unit t : ℕ} {s disks short : List ℕ} {a : Answer} {disks′ short�
             ∙ ap (λ (o : Out Plan). setLeft o set) (sym (p .is) ∙ same);
       }
 
-  pub read-refused : (set : List ℕ) {e : Refusal} {r : ℕ} → a ≡ Refused e → Room (length set / 2) (length short) → r ≡ numberOf e
+  pub read-refused : (set : List ℕ) {e : Refusal} {r : ℕ} → a ≡ Refused e → Room (length set / 2) (length short)
+      → r ≡ packRefused (numberOf e)
       → PlanRead unit t s disks set r disks′ set
   unfolding toldPlan readerAnswer
   read-refused set {e} {r} q room answer =
-      let same : settle (planSheet unit t s 0) disks short ≡ planOf unit t s disks set = room-same unit t s disks short set b room in
-      let v : refused (numberOf e) ≡ heads (planOf unit t s disks set) = ap (toldPlan (length s)) (sym q) ∙ g .answer ∙ ap heads same in
+      let same : ifRoom (planSheet unit t s 0) disks short ≡ planIfRoom unit t s disks set = room-same unit t s disks short set b room in
+      let v : refused (numberOf e) ≡ heads (planIfRoom unit t s disks set) = ap (toldPlan (length s)) (sym q) ∙ g .answer ∙ ap heads same in
       record {
         answer = answer ∙ ap readerAnswer v;
         blocks = g .blocks ∙ ap (λ (o : Out Plan). disksLeft o disks) same;
-        members = unset (planOf unit t s disks set) set v;
+        members = unset (planIfRoom unit t s disks set) set v;
       }

@@ -1,7 +1,7 @@
 -- The promises of the three exported functions.
 --     settingsDraftOfBytes, requestDraftOfBytes     the sheet of lists of bytes, or why there is none
 --     Exported          a writer's answer, and the buffer afterwards
---     planOf         what a plan sheet says, for two lists of bytes
+--     planIfRoom         what a plan sheet says, for two lists of bytes
 --     setLeft        the bytes of the short set afterwards
 --     PlanRead       the plan reader's answer, and the two lists afterwards
 use Prim.Native.Nat.{ℕ}
@@ -15,7 +15,7 @@ use Rattle.field.specs.Sheet.{Out, got, refused}
 use Rattle.settings.specs.Draft.{settingsDraft}
 use Rattle.request.specs.Draft.{requestDraft}
 use Rattle.plan.specs.Plan.{Plan, planSheet}
-use Rattle.plan.specs.Receive.{settle, heads, disksLeft}
+use Rattle.plan.specs.Receive.{ifRoom, heads, disksLeft}
 use Rattle.basics.specs.Buffer.{over}
 use Rattle.lent.specs.Numbers.{bytesOf, numbers, broken}
 use Rattle.lent.specs.Packed.{writerAnswer, readerAnswer}
@@ -36,8 +36,8 @@ pub record Exported (d : Draft) (out : List ℕ) (r : ℕ) (after : List ℕ) : 
   pub held : after ≡ leftBy d out
 
 -- the sheet's plan; 11 where Q is above the bytes of the first list or m above the pairs of the second: an odd last byte is no room
-unfoldable pub planOf : ℕ → ℕ → List ℕ → List ℕ → List ℕ → Out Plan
-planOf unit t sheet disks set = settle (planSheet unit t sheet 0) disks (numbers 2 set)
+unfoldable pub planIfRoom : ℕ → ℕ → List ℕ → List ℕ → List ℕ → Out Plan
+planIfRoom unit t sheet disks set = ifRoom (planSheet unit t sheet 0) disks (numbers 2 set)
 
 -- the short set's bytes first, the bytes beyond them as they were; on refusal all as it was
 unfoldable pub setLeft : Out Plan → List ℕ → List ℕ
@@ -46,6 +46,6 @@ setLeft (refused n) set = set
 
 -- Q, R and m, the disks by block in the first list, the short set in the second
 pub record PlanRead (unit t : ℕ) (sheet disks set : List ℕ) (r : ℕ) (disks′ set′ : List ℕ) : Type 0 where
-  pub answer : r ≡ readerAnswer (heads (planOf unit t sheet disks set))
-  pub blocks : disks′ ≡ disksLeft (planOf unit t sheet disks set) disks
-  pub members : set′ ≡ setLeft (planOf unit t sheet disks set) set
+  pub answer : r ≡ readerAnswer (heads (planIfRoom unit t sheet disks set))
+  pub blocks : disks′ ≡ disksLeft (planIfRoom unit t sheet disks set) disks
+  pub members : set′ ≡ setLeft (planIfRoom unit t sheet disks set) set

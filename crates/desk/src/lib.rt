@@ -1,9 +1,9 @@
 // The desk end for C: lists lent as bytes, one call, one packed answer.
 use basics::BLOCKS;
 use basics::DISKS;
+use field::Refusal;
 use field::Written;
 use plan::Answer;
-ghost use mathlib.Core.Path.{_≡_};
 ghost use Prim.Native.Nat.{_/_, _≤_};
 ghost use lib.ListN.{length};
 ghost use Rattle.basics.specs.Limits.{disksMost};
@@ -49,13 +49,13 @@ pub extern "C" fn rp_write_settings(
         (now (out .entry)) r (now (out .exit)) ⌝ }
 {
     if !lent::usable(costs, 4, DISKS) {
-        return 6;
+        return lent::refuse(Refusal::OutOfRange);
     }
     if !lent::usable(loads, 4, DISKS) {
-        return 6;
+        return lent::refuse(Refusal::OutOfRange);
     }
     if !lent::usable(delays, 4, DISKS) {
-        return 6;
+        return lent::refuse(Refusal::OutOfRange);
     }
     lent::pack_written(send_settings(unit, tenancy, costs, loads, delays, out))
 }
@@ -72,7 +72,7 @@ pub extern "C" fn rp_write_request(
     ensures { λ r. ⌜ Exported (requestDraftOfBytes unit tenancy disks (now (copies .entry))) (now (out .entry)) r (now (out .exit)) ⌝ }
 {
     if !lent::usable(copies, 8, BLOCKS) {
-        return 6;
+        return lent::refuse(Refusal::OutOfRange);
     }
     let blocks = lent::eights(copies);
     let n = copies.len() / 8;
@@ -98,6 +98,6 @@ pub extern "C" fn rp_read_plan(
             lent::put_pairs(&blocks, h.size, short);
             lent::pack_plan(Answer::Accepted(h))
         }
-        Answer::Refused(e) => field::number_of(e) as u64,
+        Answer::Refused(e) => lent::refuse(e),
     }
 }

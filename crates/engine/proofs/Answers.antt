@@ -11,7 +11,7 @@ use mathlib.Core.Bool.{Bool, true}
 use mathlib.Core.List.{List}
 use native.Mathlib.Omega.{arith}
 use lib.Dec.{ltb}
-use lib.ListN.{getD, length, replicate, length-replicate}
+use lib.ListN.{getD, length, take, replicate, length-replicate}
 use borrow.Author.Tests.{ltb-true, ltb-false}
 use Rattle.basics.specs.Limits.{disksMost, blocksMost, placesMost, nodesMost}
 use Rattle.mask.specs.Has.{has}
@@ -30,7 +30,7 @@ use Rattle.model.proofs.Duality.{room-ext}
 use Rattle.model.proofs.Time.{certificate-least}
 use Rattle.model.proofs.Move.{reads-ext}
 use Rattle.places.specs.Places.{entry, holds, Possible}
-use Rattle.places.specs.Table.{caseOf, Table}
+use Rattle.places.specs.Table.{maskedCase, Table}
 use Rattle.places.specs.Among.{among}
 use Rattle.places.specs.Seats.{Cleared}
 use Rattle.places.proofs.Laws.{all-placed}
@@ -39,7 +39,7 @@ use Rattle.timing.specs.Times.{Blank, Timed, Least, Restored}
 use Rattle.timing.proofs.Stuck.{within-caps}
 use Rattle.order.specs.Ordered.{Ordered}
 use Rattle.engine.specs.Spelled.{Ready}
-use Rattle.engine.specs.Planned.{listed}
+use Rattle.basics.specs.Lists.{listed}
 use Rattle.engine.specs.Parts.{Loaded, Stored, Listed, Fresh, Named, Sorted, Solving, Solved}
 
 pub blank : {n q : ℕ} {masks costs starts caps seats counts next prev out seats′ counts′ next′ prev′ : List ℕ}
@@ -50,15 +50,15 @@ blank {masks = masks} {out = out} f c =
 
 -- ---- the least time
 
-priced : {n : ℕ} {costs starts : List ℕ} (q : ℕ) (masks : List ℕ) → Table n costs starts → Priced (caseOf n q masks costs starts)
+priced : {n : ℕ} {costs starts : List ℕ} (q : ℕ) (masks : List ℕ) → Table n costs starts → Priced (maskedCase n q masks costs starts)
 unfolding Priced
 priced q masks tb = tb .priced
 
 pub least-time : {n q : ℕ} {masks costs starts caps seats counts next prev out : List ℕ} {t : ℕ} → Table n costs starts
-    → Least n q masks costs starts caps seats counts next prev out t → LeastTime (caseOf n q masks costs starts) t
+    → Least n q masks costs starts caps seats counts next prev out t → LeastTime (maskedCase n q masks costs starts) t
 unfolding Schedule
 least-time {n} {q} {masks} {costs} {starts} {seats = seats} {t = t} tb l =
-    let m = caseOf n q masks costs starts in
+    let m = maskedCase n q masks costs starts in
     let k = l .timed in
     let v : Schedule m (entry seats) = all-placed (k .ready .seated .placed) (k .whole) in
     let w : response m (entry seats) ≤ t =
@@ -70,11 +70,11 @@ least-time {n} {q} {masks} {costs} {starts} {seats = seats} {t = t} tb l =
 
 -- the schedules within the capacities at t are those in time t
 first-time : {n q : ℕ} {masks costs starts : List ℕ} {t : ℕ} {caps seats counts next prev out : List ℕ} (a : ℕ → ℕ) → Table n costs starts
-    → LeastTime (caseOf n q masks costs starts) t → Timed n q masks costs starts t caps seats counts next prev out
-    → FirstOf q (Possible n q masks caps) a → FirstOf q (HasTime (caseOf n q masks costs starts) t) a
+    → LeastTime (maskedCase n q masks costs starts) t → Timed n q masks costs starts t caps seats counts next prev out
+    → FirstOf q (Possible n q masks caps) a → FirstOf q (HasTime (maskedCase n q masks costs starts) t) a
 unfolding InTime Schedule Within capacityAt
 first-time {n} {q} {masks} {costs} {starts} {t} {caps} a tb l k f =
-    let m = caseOf n q masks costs starts in
+    let m = maskedCase n q masks costs starts in
     first-has-time m t q a l
     (first-same (Possible n q masks caps) (InTime m t) q a
     (λ x p. (p .0, within-response m x t (priced q masks tb) (λ d h. omega (arith, p .1 d h, k .caps-at .each d h))))
@@ -98,8 +98,8 @@ pub named : {n q : ℕ} {masks costs starts : List ℕ} {t : ℕ} {caps seats co
 named {n} {q} {masks} {costs} {starts} {t} {x = x} {short′ = short′} {m = m} r l =
     record {
       set = l .set;
-      smallest = short-same n q (holds masks) (capacityAt (caseOf n q masks costs starts) (t - 1)) (among masks x) (listed short′ m)
-          (l .same) (r .short);
+      smallest = short-same n q (holds masks) (capacityAt (maskedCase n q masks costs starts) (t - 1)) (among masks x)
+          (listed (take m short′)) (l .same) (r .short);
       timed = r .timed;
     }
 
@@ -138,7 +138,7 @@ solved {masks = masks} {costs = costs} {starts = starts} {disks = disks} {short 
     let case : ℕ → (ℕ → ℕ → Bool) → Case = λ n c.
     record { disks = n; blocks = length copies; start = λ d. getD starts d 0; cost = λ d. getD costs d 0; copy = c } in
     let h = least-time tb k in
-    let plan : Optimal (case (length costs) (holds copies)) t (entry disks′) (listed short′ m) =
+    let plan : Optimal (case (length costs) (holds copies)) t (entry disks′) (listed (take m short′)) =
     rw (tb .costs-long, e, ← same-copies l)
     (record { least = h; first = first-time (entry disks′) tb h (s .timed) (f .first); short = s .smallest }) in
     record {

@@ -7,18 +7,19 @@
 use Prim.Native.Nat.{ℕ, _-_, _≤_, _<_}
 use mathlib.Core.Path.{_≡_}
 use mathlib.Core.List.{List}
-use lib.ListN.{getD, length}
+use lib.ListN.{getD, length, take}
 use Rattle.basics.specs.Limits.{disksMost, blocksMost, placesMost}
+use Rattle.basics.specs.Lists.{listed}
 use Rattle.model.specs.Case.{capacityAt}
 use Rattle.model.specs.Order.{FirstOf}
 use Rattle.model.specs.Shortfall.{ShortSet}
 use Rattle.places.specs.Places.{entry, holds, Possible}
-use Rattle.places.specs.Table.{caseOf, Table, Copies}
+use Rattle.places.specs.Table.{maskedCase, Table, Copies}
 use Rattle.places.specs.Among.{among}
 use Rattle.places.specs.Seats.{Empty}
 use Rattle.timing.specs.Times.{Timed}
-use Rattle.engine.specs.Planned.{listed, Rising, Planned}
-use Rattle.engine.specs.declared.Answer.{Answer}
+use Rattle.engine.specs.Planned.{Front, Planned}
+use Rattle.engine.specs.declared.Found.{Found}
 
 -- the masks are the copies, and 0 beyond
 pub record Loaded (copies masks : List ℕ) : Type 0 where
@@ -33,8 +34,8 @@ pub record Stored (q : ℕ) (seats disks disks′ : List ℕ) : Type 0 where
 
 -- the blocks below q whose copies all lie in x, rising
 pub record Listed (q : ℕ) (masks : List ℕ) (x : ℕ) (short short′ : List ℕ) (m : ℕ) : Type 0 where
-  pub set : Rising q m short short′
-  pub same : (b : ℕ) → b < q → listed short′ m b ≡ among masks x b
+  pub set : Front q m short short′
+  pub same : (b : ℕ) → b < q → listed (take m short′) b ≡ among masks x b
 
 -- a case, and lists with no block placed
 pub record Fresh (n q : ℕ) (masks costs starts caps seats counts next prev out : List ℕ) : Type 0 where
@@ -54,8 +55,8 @@ pub record Naming (n q : ℕ) (masks costs starts : List ℕ) (t : ℕ) (caps se
 -- the short set just before t, rising, and a schedule in time t
 pub record Named (n q : ℕ) (masks costs starts : List ℕ) (t : ℕ) (caps seats counts next prev out short short′ : List ℕ) (m : ℕ)
     : Type 0 where
-  pub set : Rising q m short short′
-  pub smallest : ShortSet n q (holds masks) (capacityAt (caseOf n q masks costs starts) (t - 1)) (listed short′ m)
+  pub set : Front q m short short′
+  pub smallest : ShortSet n q (holds masks) (capacityAt (maskedCase n q masks costs starts) (t - 1)) (listed (take m short′))
   pub timed : Timed n q masks costs starts t caps seats counts next prev out
 
 -- the first schedule in the buffer
@@ -72,6 +73,6 @@ pub record Solving (n q : ℕ) (masks costs starts caps seats counts next prev o
   pub short-room : q ≤ length short
 
 -- the plan of whatever copies the masks were loaded from
-abbrev pub Solved : ℕ → List ℕ → List ℕ → List ℕ → List ℕ → List ℕ → List ℕ → List ℕ → Answer → Type 0
+abbrev pub Solved : ℕ → List ℕ → List ℕ → List ℕ → List ℕ → List ℕ → List ℕ → List ℕ → Found → Type 0
 Solved q masks costs starts disks short disks′ short′ r =
     (copies : List ℕ) → length copies ≡ q → Loaded copies masks → Planned copies costs starts disks short disks′ short′ r

@@ -4,11 +4,11 @@ use mathlib.Core.List.{List}
 use lib.ListN.{length}
 use Rattle.basics.specs.Limits.{blocksMost}
 use Rattle.model.specs.Case.{Case}
-use Rattle.places.specs.Table.{caseOf, Table, Copies}
+use Rattle.places.specs.Table.{maskedCase, Table, Copies}
 
 -- as many blocks as masks, as many disks as costs
 abbrev pub spelled : List ℕ → List ℕ → List ℕ → Case
-spelled copies costs starts = caseOf (length costs) (length copies) copies costs starts
+spelled copies costs starts = maskedCase (length costs) (length copies) copies costs starts
 
 -- document 01's ranges, and buffers with room for every block
 pub record Ready (copies costs starts disks short : List ℕ) : Type 0 where

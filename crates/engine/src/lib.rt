@@ -20,7 +20,7 @@ use basics::Reaches;
 use basics::Seats;
 
 // The least time R, and how many blocks the short set has.
-pub struct Answer {
+pub struct Found {
     pub time: u32,
     pub size: usize,
 }
@@ -174,7 +174,7 @@ fn solve(
     out: &mut Reaches,
     disks: &mut [u8],
     short: &mut [u16],
-) -> Answer
+) -> Found
     requires { ⌜ Solving n q (now masks) (now costs) (now starts) (now caps) (now seats) (now counts) (now next) (now prev) (now out)
         (now disks) (now short) ⌝ }
     ensures { λ r. ⌜ Solved q (now (masks .entry)) (now (costs .entry)) (now (starts .entry)) (now (disks .entry)) (now (short .entry))
@@ -209,7 +209,7 @@ fn solve(
         short,
     );
     sort_out(n, q, masks, caps, seats, counts, next, prev, out, disks);
-    Answer { time, size }
+    Found { time, size }
 }
 
 // The plan of the case that the slices spell: disks[b] is the disk of block b, short[..size] the short set, time the least time.
@@ -219,7 +219,7 @@ pub fn plan(
     starts: &[u32],
     disks: &mut [u8],
     short: &mut [u16],
-) -> Answer
+) -> Found
     requires { ⌜ Ready (now copies) (now costs) (now starts) (now disks) (now short) ⌝ }
     ensures { λ r. ⌜ Planned (now (copies .entry)) (now (costs .entry)) (now (starts .entry)) (now (disks .entry)) (now (short .entry))
         (now (disks .exit)) (now (short .exit)) r ⌝ }

@@ -22,13 +22,13 @@ use Rattle.places.specs.Places.{holds, roomy}
 use Rattle.places.specs.Among.{Inside}
 use Rattle.places.specs.Room.{Open}
 use Rattle.search.specs.Outcome.{Seeking, Gained, Blocked, More}
-use Rattle.fill.specs.Filled.{Ready, Packed}
+use Rattle.fill.specs.Packed.{Packing, Packed}
 use Rattle.fill.specs.Parts.{Ground}
 use Rattle.places.proofs.Room.{full-roomy}
 use Rattle.search.proofs.Steps.{gained-more}
 
 pub ground-start : {n q : ℕ} {masks caps seats counts next prev out : List ℕ} (by : List ℕ) (room : ℕ)
-    → Ready n q masks caps seats counts next prev out → length by ≡ placesMost → Open n caps counts room
+    → Packing n q masks caps seats counts next prev out → length by ≡ placesMost → Open n caps counts room
     → Ground n q 0 masks caps seats counts next prev out by room 0
 ground-start by room r l o =
     let none : (d : ℕ) → has 0 d ≡ true → ⊥ = λ d t. differ t (has-zero d) in

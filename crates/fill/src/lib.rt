@@ -2,7 +2,7 @@
 ghost use mathlib.Core.Path.{_≡_};
 ghost use Prim.Native.Nat.{_+_, _<_};
 ghost use lib.ListN.{getD};
-ghost use Rattle.fill.specs.Filled.{Ready, Packed};
+ghost use Rattle.fill.specs.Packed.{Packing, Packed};
 ghost use Rattle.fill.specs.Parts.{Ground};
 use basics::Capacities;
 use basics::Counts;
@@ -14,8 +14,8 @@ use basics::Seats;
 use basics::Steps;
 use search::Hit;
 
-// The disks that have room, and disks that are full and closed.
-struct Tried {
+// What is known of the disks: those that have room, and some that are full and closed.
+struct Known {
     room: u64,
     closed: u64,
 }
@@ -33,15 +33,15 @@ fn place_one(
     prev: &mut Links,
     out: &mut Reaches,
     by: &mut Steps,
-    tried: Tried,
-) -> Tried
-    requires { ⌜ (Ground n q b (now masks) (now caps) (now seats) (now counts) (now next) (now prev) (now out) (now by) (tried .room)
-        (tried .closed)) × (b < q) × (getD (now seats) b 0 ≡ n) ⌝ }
+    known: Known,
+) -> Known
+    requires { ⌜ (Ground n q b (now masks) (now caps) (now seats) (now counts) (now next) (now prev) (now out) (now by) (known .room)
+        (known .closed)) × (b < q) × (getD (now seats) b 0 ≡ n) ⌝ }
     ensures { λ r. ⌜ Ground n q (b + 1) (now (masks .entry)) (now (caps .entry)) (now (seats .exit)) (now (counts .exit)) (now (next .exit))
         (now (prev .exit)) (now (out .exit)) (now (by .exit)) (r .room) (r .closed) ⌝ }
 {
-    let room = tried.room;
-    let closed = tried.closed;
+    let room = known.room;
+    let closed = known.closed;
     let hit = search::improve(
         n,
         q,
@@ -58,11 +58,11 @@ fn place_one(
         by,
     );
     match hit {
-        Hit::Free(d, _) => Tried {
+        Hit::Free(d, _) => Known {
             room: places::reopen(n, d, caps, counts, room),
             closed,
         },
-        Hit::Stuck(x) => Tried { room, closed: x },
+        Hit::Stuck(x) => Known { room, closed: x },
     }
 }
 
@@ -78,19 +78,19 @@ pub fn place_all(
     prev: &mut Links,
     out: &mut Reaches,
 ) -> u64
-    requires { ⌜ Ready n q (now masks) (now caps) (now seats) (now counts) (now next) (now prev) (now out) ⌝ }
+    requires { ⌜ Packing n q (now masks) (now caps) (now seats) (now counts) (now next) (now prev) (now out) ⌝ }
     ensures { λ r. ⌜ Packed n q (now (masks .entry)) (now (caps .entry)) (now (seats .exit)) (now (counts .exit)) (now (next .exit))
         (now (prev .exit)) (now (out .exit)) r ⌝ }
 {
     let mut by = [0u16; PLACES];
-    let mut tried = Tried {
+    let mut known = Known {
         room: places::open(n, caps, counts),
         closed: 0,
     };
     let mut b = 0;
     while b < q {
         if seats[b] as usize == n {
-            tried = place_one(
+            known = place_one(
                 n,
                 q,
                 b,
@@ -102,10 +102,10 @@ pub fn place_all(
                 prev,
                 out,
                 &mut by,
-                tried,
+                known,
             );
         }
         b += 1;
     }
-    tried.closed
+    known.closed
 }

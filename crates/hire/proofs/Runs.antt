@@ -23,26 +23,26 @@ use Rattle.unit.specs.declared.Unit.{Unit as Shelf}
 use Rattle.unit.specs.Life.{Outcome, takes, refuses, rent, settled, set, giveBack}
 use Rattle.unit.specs.Request.{askedOf, Replied}
 use Rattle.unit.specs.Sound.{Sound}
-use Rattle.unit.specs.Told.{told, toldAnswer}
+use Rattle.unit.specs.Told.{told, toldVerdict}
 use Rattle.unit.specs.Unit.{newUnit, tenancyOf, tenanted, returned}
 use Rattle.unit.proofs.Sound.{sound-new, sound-rent, sound-set, sound-back}
 use Rattle.hire.specs.Calls.{Call, renting, setting, asking, returning, Reply, said, planned, Comes, sent, Does, Runs, none, next}
 
 -- ---- what the methods promise is a call's reply
 
-comes : {o : Outcome} (d : Done) → told d ≡ o → Comes o (said (toldAnswer (d .answer))) (d .unit)
+comes : {o : Outcome} (d : Done) → told d ≡ o → Comes o (said (toldVerdict (d .answer))) (d .unit)
 unfolding Comes told
 comes d h = (ap (λ (o : Outcome). said (o .verdict)) h, ap (λ (o : Outcome). o .unit) h)
 
-pub rent-does : (u : Shelf) (t : ℕ) (d : Done) → told d ≡ rent u t → Does u (renting t) (said (toldAnswer (d .answer))) (d .unit)
+pub rent-does : (u : Shelf) (t : ℕ) (d : Done) → told d ≡ rent u t → Does u (renting t) (said (toldVerdict (d .answer))) (d .unit)
 unfolding Does
 rent-does u t d h = comes d h
 
-pub set-does : (u : Shelf) (s : List ℕ) (d : Done) → told d ≡ set u s → Does u (setting s) (said (toldAnswer (d .answer))) (d .unit)
+pub set-does : (u : Shelf) (s : List ℕ) (d : Done) → told d ≡ set u s → Does u (setting s) (said (toldVerdict (d .answer))) (d .unit)
 unfolding Does
 set-does u s d h = comes d h
 
-pub back-does : (u : Shelf) (t : ℕ) (d : Done) → told d ≡ giveBack u t → Does u (returning t) (said (toldAnswer (d .answer))) (d .unit)
+pub back-does : (u : Shelf) (t : ℕ) (d : Done) → told d ≡ giveBack u t → Does u (returning t) (said (toldVerdict (d .answer))) (d .unit)
 unfolding Does
 back-does u t d h = comes d h
 
@@ -132,7 +132,7 @@ does-exists u (renting t) w = (said (rent u t .verdict), rent u t .unit, (refl, 
 does-exists u (setting s) w = (said (set u s .verdict), set u s .unit, (refl, refl))
 does-exists u (returning t) w = (said (giveBack u t .verdict), giveBack u t .unit, (refl, refl))
 does-exists u (asking s out) w =
-    let x = plans-exist (u .number) (tenancyOf u) s (w .filled) in
+    let x = plans-exist (u .number) (tenancyOf u) s (w .proper) in
     (sent (draftOf (u .number) (tenancyOf u) (x .0)) out, u, (x .0, x .1, refl, refl))
 
 pub runs-exist : (u : Shelf) (cs : List Call) → Sound u → (rs : List Reply) × (v : Shelf) × Runs u cs rs v

@@ -26,10 +26,6 @@ module _ {w n : ℕ} {bytes out : List ℕ} where
   unfolding firstNumbers
   gathered-start h = record { count = h; below = omega arith; held = over-none out }
 
-  pub gathered-length : {after : List ℕ} {i : ℕ} → Gathered w n bytes out after i → n ≤ length out → length after ≡ length out
-  gathered-length {after} {i} g room = ap length (g .held)
-      ∙ over-length (firstNumbers w i bytes) out (omega (arith, first-length w i bytes, g .below))
-
   pub gathered-step : {after : List ℕ} {i v : ℕ} → Gathered w n bytes out after i → i < n → n ≤ length out → v ≡ numberAt w bytes (w * i)
       → Gathered w n bytes out (set after i v) (i + 1)
   gathered-step {after} {i} {v} g l room e =

@@ -41,14 +41,14 @@ number-split a b s at h =
     ∙ ap (λ (x : List ℕ). valueOf (take a (drop at s)) + 256 ^ a * valueOf (take b x)) (drop-drop a at s)
 
 -- the lowest byte and the rest
-pub number-step : (w : ℕ) (s : List ℕ) (at : ℕ) → at < length s → numberAt (suc w) s at ≡ getD s at 0 + 256 * numberAt w s (at + 1)
+number-step : (w : ℕ) (s : List ℕ) (at : ℕ) → at < length s → numberAt (suc w) s at ≡ getD s at 0 + 256 * numberAt w s (at + 1)
 unfolding numberAt valueOf
 number-step w s at h =
     let e : suc at ≡ at + 1 = omega arith in
     ap (λ (x : List ℕ). valueOf (take (suc w) x)) (drop-cons s at 0 h)
     ∙ ap (λ (k : ℕ). getD s at 0 + 256 * valueOf (take w (drop k s))) e
 
-pub number-none : (s : List ℕ) (at : ℕ) → numberAt 0 s at ≡ 0
+number-none : (s : List ℕ) (at : ℕ) → numberAt 0 s at ≡ 0
 unfolding numberAt valueOf
 number-none s at = refl
 

@@ -9,6 +9,7 @@ use mathlib.Core.Bool.{Bool, not, _&&_}
 use mathlib.Core.List.{List, [], _∷_}
 use lib.ListN.{length, take, drop}
 use lib.Dec.{leb, ltb}
+use Rattle.basics.specs.Limits.{blocksMost}
 
 -- the number of some bytes
 unfoldable pub valueOf : List ℕ → ℕ
@@ -43,6 +44,6 @@ usable w most bytes = not (broken w bytes) && leb (length bytes / w) most
 
 -- r is the lesser of n and 1,024
 pub record Room (n r : ℕ) : Type 0 where
-  pub within : r ≤ 1024
+  pub within : r ≤ blocksMost
   pub below : r ≤ n
-  pub enough : (m : ℕ) → m ≤ 1024 → m ≤ n → m ≤ r
+  pub enough : (m : ℕ) → m ≤ blocksMost → m ≤ n → m ≤ r

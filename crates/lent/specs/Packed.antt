@@ -1,8 +1,9 @@
 -- An answer of several numbers as one number of 64 bits: bits 0 to 7 the refusal, 0 accepted.
---     packWritten, packPlan          what is accepted
+--     refusals, blocksAt, ..         how many values a field has; what it is multiplied by, where it is not the lowest
+--     packWritten, packPlan, packRefused     what is accepted; what is refused
 --     writerAnswer, readerAnswer     what is answered
 --     refusalIn, lengthIn, blocksIn, timeIn, sizeIn     what a caller takes out
---     Fits32, FitsBits                   values that have room in their bits
+--     Fits32, FitsBits               values that have room in their bits
 use Prim.Native.Nat.{ℕ, _+_, _*_, _/_, _%_, _^_, _<_}
 use Rattle.field.specs.Sheet.{Out, got, refused}
 use Rattle.field.specs.declared.Written.{Written}
@@ -12,50 +13,77 @@ use Rattle.plan.specs.declared.Answer.{Answer}
 use Rattle.plan.specs.declared.Answer.the-variants.{Accepted}
 use Rattle.plan.specs.declared.Answer.the-variants.{Refused as Not}
 
+-- bits 0 to 7 the refusal
+abbrev pub refusals : ℕ
+refusals = 2 ^ 8
+
 -- bits 32 to 63 the length written
+abbrev pub lengthAt : ℕ
+lengthAt = 2 ^ 32
+
+abbrev pub lengths : ℕ
+lengths = 2 ^ 32
+
+-- bits 8 to 18 Q
+abbrev pub blocksAt : ℕ
+blocksAt = 2 ^ 8
+
+-- bits 19 to 49 R
+abbrev pub timeAt : ℕ
+timeAt = 2 ^ 19
+
+abbrev pub times : ℕ
+times = 2 ^ 31
+
+-- bits 50 to 60 m
+abbrev pub sizeAt : ℕ
+sizeAt = 2 ^ 50
+
+-- Q and m are of 11 bits
+abbrev pub counts : ℕ
+counts = 2 ^ 11
+
 unfoldable pub packWritten : ℕ → ℕ
-packWritten n = n * 2 ^ 32
+packWritten n = n * lengthAt
 
--- bits 8 to 18 Q, 19 to 49 R, 50 to 60 m
 unfoldable pub packPlan : ℕ → ℕ → ℕ → ℕ
-packPlan q r m = q * 2 ^ 8 + r * 2 ^ 19 + m * 2 ^ 50
+packPlan q r m = q * blocksAt + r * timeAt + m * sizeAt
 
--- what a writer answers: on refusal all other bits are 0
+-- the number alone: all other bits are 0
+abbrev pub packRefused : ℕ → ℕ
+packRefused e = e
+
+-- what a writer answers
 unfoldable pub writerAnswer : Out Unit → ℕ
 writerAnswer (got u n) = packWritten n
-writerAnswer (refused e) = e
+writerAnswer (refused e) = packRefused e
 
 -- what the plan reader answers
 unfoldable pub readerAnswer : Out Head → ℕ
 readerAnswer (got h n) = packPlan (h .blocks) (h .time) (h .size)
-readerAnswer (refused e) = e
+readerAnswer (refused e) = packRefused e
 
--- bits 0 to 7
 unfoldable pub refusalIn : ℕ → ℕ
-refusalIn a = a % 2 ^ 8
+refusalIn a = a % refusals
 
--- bits 32 to 63
 unfoldable pub lengthIn : ℕ → ℕ
-lengthIn a = a / 2 ^ 32
+lengthIn a = a / lengthAt
 
--- bits 8 to 18
 unfoldable pub blocksIn : ℕ → ℕ
-blocksIn a = a / 2 ^ 8 % 2 ^ 11
+blocksIn a = a / blocksAt % counts
 
--- bits 19 to 49
 unfoldable pub timeIn : ℕ → ℕ
-timeIn a = a / 2 ^ 19 % 2 ^ 31
+timeIn a = a / timeAt % times
 
--- bits 50 to 60
 unfoldable pub sizeIn : ℕ → ℕ
-sizeIn a = a / 2 ^ 50 % 2 ^ 11
+sizeIn a = a / sizeAt % counts
 
 -- a length of 32 bits
 unfoldable pub Fits32 : Written → Type 0
-Fits32 (Length n) = n < 2 ^ 32
+Fits32 (Length n) = n < lengths
 Fits32 (Refused e) = Unit
 
 -- Q and m of 11 bits, R of 31
 unfoldable pub FitsBits : Answer → Type 0
-FitsBits (Accepted h) = (h .blocks < 2 ^ 11) × (h .time < 2 ^ 31) × (h .size < 2 ^ 11)
+FitsBits (Accepted h) = (h .blocks < counts) × (h .time < times) × (h .size < counts)
 FitsBits (Not e) = Unit

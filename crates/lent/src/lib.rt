@@ -1,6 +1,7 @@
 // Lists lent as bytes, lowest byte first, and answers of several numbers as one.
 use basics::BLOCKS;
 use basics::DISKS;
+use field::Refusal;
 use field::Written;
 use plan::Answer;
 ghost use mathlib.Core.Path.{_≡_};
@@ -8,11 +9,29 @@ ghost use Prim.Native.Nat.{ℕ, _+_, _*_, _/_, _≤_, _<_};
 ghost use lib.ListN.{length, take, replicate};
 ghost use Rattle.basics.specs.Limits.{disksMost, blocksMost};
 ghost use Rattle.field.specs.Put.{spellAll};
+ghost use Rattle.field.specs.Refusal.{numberOf};
 ghost use Rattle.field.specs.Send.{toldWritten};
 ghost use Rattle.basics.specs.Buffer.{over};
 ghost use Rattle.plan.specs.Told.{toldPlan};
 ghost use Rattle.lent.specs.Numbers.{numberAt, bytesOf, numbers, usable, Room};
-ghost use Rattle.lent.specs.Packed.{writerAnswer, readerAnswer, Fits32, FitsBits};
+ghost use Rattle.lent.specs.Packed.{packRefused, writerAnswer, readerAnswer, Fits32, FitsBits};
+
+// What Q, R and m are multiplied by in the plan reader's answer: 2 ^ 8, 2 ^ 19, 2 ^ 50.
+const BLOCKS_AT: u64 = 256;
+
+const TIME_AT: u64 = 524_288;
+
+const SIZE_AT: u64 = 1_125_899_906_842_624;
+
+// The upper 32 of 64 bits count this many: a writer's length, and the high four of eight bytes.
+const UPPER: u64 = 4_294_967_296;
+
+// A refusal's answer: its number alone.
+pub fn refuse(e: Refusal) -> u64
+    ensures { λ r. ⌜ r ≡ packRefused (numberOf e) ⌝ }
+{
+    field::number_of(e) as u64
+}
 
 // A writer's answer: the length from bit 32 on, or the refusal.
 pub fn pack_written(w: Written) -> u64
@@ -20,8 +39,8 @@ pub fn pack_written(w: Written) -> u64
     ensures { λ r. ⌜ r ≡ writerAnswer (toldWritten w) ⌝ }
 {
     match w {
-        Written::Length(n) => n as u64 * 4_294_967_296,
-        Written::Refused(e) => field::number_of(e) as u64,
+        Written::Length(n) => n as u64 * UPPER,
+        Written::Refused(e) => refuse(e),
     }
 }
 
@@ -35,9 +54,9 @@ pub fn pack_plan(a: Answer) -> u64
             let q = h.blocks as u64;
             let time = h.time as u64;
             let m = h.size as u64;
-            q * 256 + time * 524_288 + m * 1_125_899_906_842_624
+            q * BLOCKS_AT + time * TIME_AT + m * SIZE_AT
         }
-        Answer::Refused(e) => field::number_of(e) as u64,
+        Answer::Refused(e) => refuse(e),
     }
 }
 
@@ -73,7 +92,7 @@ fn eight_at(bytes: &[u8], at: usize) -> u64
     requires { ⌜ at + 8 ≤ length (now bytes) ⌝ }
     ensures { λ r. ⌜ r ≡ numberAt 8 (now (bytes .entry)) at ⌝ }
 {
-    four_at(bytes, at) as u64 + 4_294_967_296 * four_at(bytes, at + 4) as u64
+    four_at(bytes, at) as u64 + UPPER * four_at(bytes, at + 4) as u64
 }
 
 // The numbers of a list of costs, loads or delays, in the first of 64 places.

@@ -8,7 +8,8 @@ use lib.Seq.{take-all}
 use Rattle.basics.proofs.Buffer.{over-none, over-length, over-within, over-more}
 use Rattle.field.specs.Put.{spellAll}
 use Rattle.field.proofs.Spell.{spell-more}
-use Rattle.line.specs.Printed.{Printed, Adds}
+use Rattle.line.specs.Printed.{Printed}
+use Rattle.line.specs.Parts.{Adds}
 use Rattle.line.specs.Text.{digit, pair}
 
 -- a buffer keeps its length

@@ -9,7 +9,7 @@ use lib.Dec.{ltb}
 use lib.ListN.{length, length-append}
 use Rattle.basics.specs.Choice.{pick}
 use Rattle.basics.proofs.Choice.{pick-true, pick-false, pick-elim}
-use Rattle.line.specs.Text.{digit, digitsBy, decimal, spaced, pair}
+use Rattle.line.specs.Text.{digit, digitsBy, decimal, spaced}
 
 pub digit-low : (d : ℕ) → d < 10 → digit d ≡ 48 + d
 unfolding digit
@@ -51,8 +51,3 @@ digits-bound (suc k) v =
 pub spaced-bound : (v : ℕ) → length (spaced v) ≤ 11
 unfolding spaced decimal
 spaced-bound v = omega (arith, digits-bound 9 v)
-
--- a byte's two digits
-pub pair-digits : (b x y : ℕ) → x ≡ digit (b / 16) → y ≡ digit (b % 16) → x ∷ y ∷ [] ≡ pair b
-unfolding pair
-pair-digits b x y h l = ap (λ (d : ℕ). d ∷ y ∷ []) h ∙ ap (λ (d : ℕ). digit (b / 16) ∷ d ∷ []) l

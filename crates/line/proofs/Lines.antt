@@ -16,7 +16,8 @@ use Rattle.plan.specs.Plan.{Plan}
 use Rattle.plan.specs.Draft.{counted}
 use Rattle.line.specs.Text.{ascii, spaced, pair, hex}
 use Rattle.line.specs.Line.{lineMost, sheetMost, feed, word-plan, bar, planText, planLine, sheetLine}
-use Rattle.line.specs.Printed.{Printed, Adds}
+use Rattle.line.specs.Printed.{Printed}
+use Rattle.line.specs.Parts.{Adds}
 use Rattle.line.proofs.Adding.{adds-line, adds-join, no-line}
 use Rattle.line.proofs.Digits.{spaced-bound}
 

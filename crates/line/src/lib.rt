@@ -6,10 +6,11 @@ ghost use mathlib.Core.Path.{_≡_};
 ghost use mathlib.Core.List.{[], _∷_, _++_};
 ghost use Rattle.field.specs.Put.{spellAll};
 ghost use Rattle.field.specs.Refusal.{numberOf};
-ghost use Rattle.line.specs.Text.{decimal, spaced, pair, hex};
+ghost use Rattle.line.specs.Text.{decimal, spaced, hex};
 ghost use Rattle.line.specs.Text.{digit as digitOf};
 ghost use Rattle.line.specs.Line.{feed, bar, word-plan, spoken, planLine, sheetLine};
-ghost use Rattle.line.specs.Printed.{Printed, Adds};
+ghost use Rattle.line.specs.Printed.{Printed};
+ghost use Rattle.line.specs.Parts.{Adds};
 
 // The bytes of a line's buffer, and of the longest sheet that has room there in hex.
 pub const LINE_MOST: usize = 24576;

@@ -2,7 +2,7 @@
 --     has-and, has-or, has-not, has-without    `a & b`, `a | b`, `!b`, `a & !b`
 --     has-shr                                  `(m >> d) & 1 != 0`
 --     shl-one, has-pow, has-ones               `1 << d` is 2 ^ d, its one disk, and the disks of 2 ^ n - 1
---     has-set, has-clear, has-keep             `m | (1 << d)`, `m & !(1 << d)`, and m where d is no disk
+--     has-set, has-clear                       `m | (1 << d)`, `m & !(1 << d)`
 use mathlib.Core.Path.{_≡_, refl, sym, ap, _∙_}
 use mathlib.Core.Bool.{Bool, not, _&&_, _||_, and-comm, or-comm}
 use mathlib.Core.Logic.{_⊎_, inl, inr}
@@ -10,7 +10,7 @@ use Prim.Native.Nat.{ℕ, zero, suc, _+_, _-_, _*_, _/_, _%_, _^_, _≤_, _<_}
 use native.Mathlib.Nat.{mod-lt, pow-suc, one-mul}
 use native.Mathlib.Omega.{arith}
 use lib.Dec.{eqb, ltb, eqb·zero-suc, eqb·suc-zero, eqb·suc-suc, leb·suc-suc, leb·suc-zero}
-use borrow.Author.Tests.{ne-eqb, lt-ltb}
+use borrow.Author.Tests.{lt-ltb}
 use lib.Pow.{pow-pos, pow-lt, shl-exact}
 use lib.Bits.{bitAnd, bitOr, and-shr, or-shr, and-mod, or-mod, and-mask}
 use Rattle.mask.specs.Has.{has}
@@ -130,10 +130,3 @@ pub has-clear : (k m d e : ℕ) → m < 2 ^ k → d < k → has (bitAnd m ((2 ^ 
 has-clear k m d e hm h =
     ap (λ (x : ℕ). has (bitAnd m ((2 ^ k - 1) - x)) e) (shl-one k d h) ∙ has-without k m (2 ^ d) e hm (pow-lt h)
     ∙ and-comm (has m e) (not (has (2 ^ d) e)) ∙ ap (λ (t : Bool). not t && has m e) (has-pow d e)
-
-pub has-keep : (k : ℕ) {m d : ℕ} (e : ℕ) → m < 2 ^ k → k ≤ d → has m e ≡ (not (eqb e d) && has m e)
-has-keep k {m} {d} e hm l = side (lt-or-le e k)
-  where
-    side : (e < k) ⊎ (k ≤ e) → has m e ≡ (not (eqb e d) && has m e)
-    side (inl h) = rw (ne-eqb e d (λ q. omega arith))
-    side (inr h) = rw (has-above k {d = e} hm h, and-comm)

@@ -18,12 +18,7 @@ use borrow.Author.Tests.{eqb-true, eq-eqb}
 use lib.Arith.{lt-one, lt-of-le-ne}
 use lib.Pow.{pow-pos, pow-mono, shr-shr, shr-le, split}
 use Rattle.mask.specs.Has.{has}
-
--- a number stands under another, or does not
-pub lt-or-le : (e k : ℕ) → (e < k) ⊎ (k ≤ e)
-lt-or-le e zero = inr zero-le
-lt-or-le zero (suc k) = inl (suc-le-suc zero-le)
-lt-or-le (suc e) (suc k) = ⊎-elim (λ l. inl (suc-le-suc l)) (λ l. inr (suc-le-suc l)) (lt-or-le e k)
+use Rattle.basics.proofs.Tests.{lt-or-le, and-right}
 
 -- ---- bit by bit
 
@@ -120,9 +115,5 @@ has-lt n r m d h f out found = lt-of-le-ne (has-le n r m h f) (λ q. true≢fals
 -- the measure of a walk that takes its disks out one by one
 pub clear-lt : (n r m d : ℕ) → r < 2 ^ n → ((e : ℕ) → has r e ≡ (not (eqb e d) && has m e)) → has m d ≡ true → r < m
 clear-lt n r m d h c found =
-    has-lt n r m d h (λ e l t. right (not (eqb e d)) (has m e) (sym (c e) ∙ t))
+    has-lt n r m d h (λ e l t. and-right (not (eqb e d)) (has m e) (sym (c e) ∙ t))
     (c d ∙ ap (λ (t : Bool). not t && has m d) (eq-eqb d d refl)) found
-  where
-    right : (a b : Bool) → (a && b) ≡ true → b ≡ true
-    right true b t = t
-    right false b t = absurd (true≢false (sym t))

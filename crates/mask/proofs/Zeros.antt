@@ -1,7 +1,7 @@
 -- Laws of the lowest disk of a mask: as many zeros stand under it as the number has at its end.
 --     zeros-under, zeros-found                a number of k bits: no disk under its trailing zeros, and a disk at them if they are under k
---     zeros-lowest                            at 64 bits they are the lowest disk
---     lowest-zero, lowest-some, lowest-has    64 is told of 0 alone; otherwise it is a disk, and one of the mask
+--     zeros-lowest                            at disksMost bits they are the lowest disk
+--     lowest-zero, lowest-some, lowest-has    disksMost is told of 0 alone; otherwise it is a disk, and one of the mask
 use mathlib.Core.Path.{_≡_, ap, _∙_}
 use mathlib.Core.Bool.{true, false}
 use mathlib.Core.Logic.{⊎-elim}
@@ -12,6 +12,7 @@ use lib.Count.{trailingZeros, under, trailing-le}
 use Rattle.mask.specs.Has.{has}
 use Rattle.mask.specs.Lowest.{Lowest}
 use Rattle.mask.proofs.Has.{has-first, has-half, mask-zero, odd-or-even}
+use Rattle.basics.specs.Limits.{disksMost}
 use Rattle.basics.proofs.Tests.{lt-or-le}
 
 -- ---- trailing zeros, of a number of any width
@@ -39,16 +40,16 @@ zeros-found (suc k) m l =
     odd-or-even m (λ o. ap (has m) (zeros-odd k m o) ∙ has-first m ∙ ap (λ (x : ℕ). eqb x 1) o)
     (λ z. let e = zeros-even k m z in ap (has m) e ∙ has-half m (trailingZeros k (m / 2)) ∙ zeros-found k (m / 2) (omega arith))
 
-pub zeros-lowest : (m : ℕ) → Lowest m (trailingZeros 64 m)
-zeros-lowest m = record { within = trailing-le 64 m; under = zeros-under 64 m; found = zeros-found 64 m }
+pub zeros-lowest : (m : ℕ) → Lowest m (trailingZeros disksMost m)
+zeros-lowest m = record { within = trailing-le disksMost m; under = zeros-under disksMost m; found = zeros-found disksMost m }
 
 -- ---- what is known of the lowest disk
 
-pub lowest-zero : (m r : ℕ) → m < 2 ^ 64 → 64 ≤ r → Lowest m r → m ≡ 0
-lowest-zero m r h k l = mask-zero 64 m h (λ d g. l .under d (omega arith))
+pub lowest-zero : (m r : ℕ) → m < 2 ^ disksMost → disksMost ≤ r → Lowest m r → m ≡ 0
+lowest-zero m r h k l = mask-zero disksMost m h (λ d g. l .under d (omega arith))
 
-pub lowest-some : (m r : ℕ) → m < 2 ^ 64 → 0 < m → Lowest m r → r < 64
-lowest-some m r h p l = ⊎-elim (λ k. k) (λ k. absurd (omega (arith, lowest-zero m r h k l))) (lt-or-le r 64)
+pub lowest-some : (m r : ℕ) → m < 2 ^ disksMost → 0 < m → Lowest m r → r < disksMost
+lowest-some m r h p l = ⊎-elim (λ k. k) (λ k. absurd (omega (arith, lowest-zero m r h k l))) (lt-or-le r disksMost)
 
-pub lowest-has : (m r : ℕ) → m < 2 ^ 64 → 0 < m → Lowest m r → has m r ≡ true
+pub lowest-has : (m r : ℕ) → m < 2 ^ disksMost → 0 < m → Lowest m r → has m r ≡ true
 lowest-has m r h p l = l .found (lowest-some m r h p l)

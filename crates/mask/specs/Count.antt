@@ -1,14 +1,8 @@
 -- How many disks a mask holds.
-use mathlib.Core.Bool.{Bool, true, false}
-use Prim.Native.Nat.{ℕ, zero, suc, _+_}
+use Prim.Native.Nat.{ℕ}
+use Rattle.basics.specs.Count.{count}
 use Rattle.mask.specs.Has.{has}
 
--- 1 for true, 0 for false
-unfoldable pub bit : Bool → ℕ
-bit true = 1
-bit false = 0
-
 -- how many disks below n are in m
-unfoldable pub members : ℕ → ℕ → ℕ
-members zero m = 0
-members (suc n) m = members n m + bit (has m n)
+abbrev pub members : ℕ → ℕ → ℕ
+members n m = count n (has m)

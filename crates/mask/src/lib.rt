@@ -1,33 +1,14 @@
-// One u64 is a set of disks: bit d stands for disk d. A number at 64 or above is no disk.
+// One u64 is a set of disks: bit d stands for disk d. A number at DISKS or above is no disk.
 ghost use mathlib.Core.Path.{_≡_};
 ghost use mathlib.Core.Bool.{not, _&&_, _||_};
 ghost use Prim.Native.Nat.{ℕ, _<_};
 ghost use lib.Dec.{eqb, ltb};
+ghost use Rattle.basics.specs.Limits.{disksMost};
 ghost use Rattle.mask.specs.Has.{has};
-ghost use Rattle.mask.specs.Member.{Added, Single, Below};
+ghost use Rattle.mask.specs.Member.{Below};
 ghost use Rattle.mask.specs.Lowest.{Lowest};
 ghost use Rattle.mask.specs.Count.{members};
-
-// Whether disk d is in m.
-pub fn test(m: u64, d: usize) -> bool
-    ensures { λ r. ⌜ r ≡ has m d ⌝ }
-{
-    if d < 64 { (m >> d) & 1 != 0 } else { false }
-}
-
-// m with disk d put in.
-pub fn set(m: u64, d: usize) -> u64
-    ensures { λ r. ⌜ Added m d r ⌝ }
-{
-    if d < 64 { m | (1 << d) } else { m }
-}
-
-// m with disk d taken out.
-pub fn clear(m: u64, d: usize) -> u64
-    ensures { λ r. ⌜ ((e : ℕ) → has r e ≡ (not (eqb e d) && has m e)) ⌝ }
-{
-    if d < 64 { m & !(1 << d) } else { m }
-}
+use basics::DISKS;
 
 // The disks that are in a and in b.
 pub fn both(a: u64, b: u64) -> u64
@@ -50,21 +31,14 @@ pub fn without(a: u64, b: u64) -> u64
     a & !b
 }
 
-// Disk d alone.
-pub fn one(d: usize) -> u64
-    ensures { λ r. ⌜ Single d r ⌝ }
-{
-    if d < 64 { 1 << d } else { 0 }
-}
-
-// The disks 0 to n - 1.
+// The disks 0 to n - 1; all of them where n is no disk.
 pub fn below(n: usize) -> u64
     ensures { λ r. ⌜ Below n r ⌝ }
 {
-    if n < 64 { (1 << n) - 1 } else { !0 }
+    if n < DISKS { (1 << n) - 1 } else { !0 }
 }
 
-// The lowest disk of m, or 64.
+// The lowest disk of m, or DISKS.
 pub fn lowest(m: u64) -> usize
     ensures { λ r. ⌜ Lowest m r ⌝ }
 {
@@ -73,7 +47,7 @@ pub fn lowest(m: u64) -> usize
 
 // How many disks are in m.
 pub fn count(m: u64) -> u32
-    ensures { λ r. ⌜ r ≡ members 64 m ⌝ }
+    ensures { λ r. ⌜ r ≡ members disksMost m ⌝ }
 {
     u64::count_ones(m)
 }
@@ -82,7 +56,7 @@ pub fn count(m: u64) -> u32
 
 // Whether disk d is in m.
 pub fn held(m: u64, d: usize) -> bool
-    requires { ⌜ d < 64 ⌝ }
+    requires { ⌜ d < disksMost ⌝ }
     ensures { λ r. ⌜ r ≡ has m d ⌝ }
 {
     (m >> d) & 1 != 0
@@ -90,7 +64,7 @@ pub fn held(m: u64, d: usize) -> bool
 
 // m with disk d put in.
 pub fn put(m: u64, d: usize) -> u64
-    requires { ⌜ d < 64 ⌝ }
+    requires { ⌜ d < disksMost ⌝ }
     ensures { λ r. ⌜ ((e : ℕ) → has r e ≡ (eqb e d || has m e)) ⌝ }
 {
     m | (1 << d)
@@ -98,7 +72,7 @@ pub fn put(m: u64, d: usize) -> u64
 
 // m with disk d taken out.
 pub fn take(m: u64, d: usize) -> u64
-    requires { ⌜ d < 64 ⌝ }
+    requires { ⌜ d < disksMost ⌝ }
     ensures { λ r. ⌜ ((e : ℕ) → has r e ≡ (not (eqb e d) && has m e)) ⌝ }
 {
     m & !(1 << d)
@@ -106,7 +80,7 @@ pub fn take(m: u64, d: usize) -> u64
 
 // Disk d alone.
 pub fn only(d: usize) -> u64
-    requires { ⌜ d < 64 ⌝ }
+    requires { ⌜ d < disksMost ⌝ }
     ensures { λ r. ⌜ ((e : ℕ) → has r e ≡ eqb e d) ⌝ }
 {
     1 << d
@@ -114,7 +88,7 @@ pub fn only(d: usize) -> u64
 
 // The disks before d.
 pub fn before(d: usize) -> u64
-    requires { ⌜ d < 64 ⌝ }
+    requires { ⌜ d < disksMost ⌝ }
     ensures { λ r. ⌜ ((e : ℕ) → has r e ≡ ltb e d) ⌝ }
 {
     (1 << d) - 1

@@ -4,7 +4,6 @@
 --     capacity-grows                    a later time has no smaller capacity (001, Lemma 5.3)
 --     endTime-idle, endTime-is          the two cases of the end time
 --     capacity-at-end, capacity-before-end    at the end of b blocks it is b, one microsecond sooner b - 1
---     capacity-at, capacity-sooner, capacity-between    the same by the end time, and all between two ends
 --     response-law                      a schedule is in time exactly if every disk's blocks are within its capacity
 --                                       (001, Lemma 5.2, for one schedule)
 use Prim.Native.Nat.{ℕ, zero, suc, _+_, _-_, _*_, _/_, _≤_, _<_}
@@ -61,18 +60,8 @@ unfolding endTime
 endTime-rises s c zero p = omega arith
 endTime-rises s c (suc b) p = omega arith
 
--- at the very end of b blocks the capacity is b
-pub capacity-at : (s c b : ℕ) → 0 < c → capacity s c (endTime s c b) ≡ b
-capacity-at s c b p =
-    le-antisymm
-    (by-cases (ltb b (capacity s c (endTime s c b)))
-    (λ e. let h = fits-ends s c (suc b) (endTime s c b) p (ltb-true b (capacity s c (endTime s c b)) e) in
-    let z : ⊥ = omega (arith, h, endTime-rises s c b p) in absurd z)
-    (λ e. ltb-false b (capacity s c (endTime s c b)) e))
-    (ends-fits s c b (endTime s c b) p (le-refl (endTime s c b)))
-
--- one microsecond before the end of b + 1 blocks, and from the end of b blocks on, it is b
-pub capacity-between : (s c b t : ℕ) → 0 < c → endTime s c b ≤ t → t < endTime s c (suc b) → capacity s c t ≡ b
+-- from the end of b blocks on, and before the end of one more, the capacity is b
+capacity-between : (s c b t : ℕ) → 0 < c → endTime s c b ≤ t → t < endTime s c (suc b) → capacity s c t ≡ b
 capacity-between s c b t p l h =
     le-antisymm
     (by-cases (ltb b (capacity s c t))
@@ -81,7 +70,7 @@ capacity-between s c b t p l h =
     (λ e. ltb-false b (capacity s c t) e))
     (ends-fits s c b t p l)
 
-pub capacity-sooner : (s c b : ℕ) → 0 < c → capacity s c (endTime s c (suc b) - 1) ≡ b
+capacity-sooner : (s c b : ℕ) → 0 < c → capacity s c (endTime s c (suc b) - 1) ≡ b
 capacity-sooner s c b p =
     capacity-between s c b (endTime s c (suc b) - 1) p
     (omega (arith, endTime-rises s c b p))
@@ -99,7 +88,9 @@ endTime-is s c zero h = omega arith
 endTime-is s c (suc b) h = refl
 
 pub capacity-at-end : (s c b : ℕ) → 0 < c → 1 ≤ b → capacity s c (s + b * c) ≡ b
-capacity-at-end s c b p h = subst (λ (x : ℕ). capacity s c x ≡ b) (endTime-is s c b h) (capacity-at s c b p)
+capacity-at-end s c b p h =
+    subst (λ (x : ℕ). capacity s c x ≡ b) (endTime-is s c b h)
+    (capacity-between s c b (endTime s c b) p (le-refl (endTime s c b)) (endTime-rises s c b p))
 
 pub capacity-before-end : (s c b : ℕ) → 0 < c → 1 ≤ b → capacity s c (s + b * c - 1) ≡ b - 1
 capacity-before-end s c zero p h = let z : ⊥ = omega arith in absurd z

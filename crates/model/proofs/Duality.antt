@@ -4,7 +4,6 @@
 --     left n q a S      how many blocks of S it leaves unplaced
 --     unplaced n q a    how many blocks it leaves unplaced in all
 --     split             a set's size is what is left of it and its shares
---     on-disk           a share is at most what a touched disk reads, and nothing on a disk that is not touched
 --     weak              a set's size is at most its room and what is left of it
 --     weak-duality      a schedule within capacities leaves no set short
 use Prim.Native.Nat.{ℕ, zero, suc, _+_, _≤_, _<_}
@@ -101,13 +100,6 @@ untouched n q copy a S v d l e =
     (λ t. let r : a b ≡ d = eqb-true (a b) d (and-right (S b) (eqb (a b) d) t) in
     let w = touched n q copy a S v b h (and-left (S b) (eqb (a b) d) t) (omega arith) in
     differ w (ap (touches q copy S) r ∙ e)))
-
-pub on-disk : (n q : ℕ) (copy : ℕ → ℕ → Bool) (a : ℕ → ℕ) (S : ℕ → Bool) → Partial n q copy a
-    → (d : ℕ) → d < n → share q a S d ≤ gate (touches q copy S d) (reads q a d)
-on-disk n q copy a S v d l =
-    by-cases (touches q copy S d)
-    (λ e. omega (arith, gate-true (touches q copy S d) (reads q a d) e, share-le q a S d))
-    (λ e. omega (arith, untouched n q copy a S v d l e))
 
 -- within capacities a share is at most the capacity of a touched disk
 pub share-room : (n q : ℕ) (copy : ℕ → ℕ → Bool) (capacities a : ℕ → ℕ) (S : ℕ → Bool)

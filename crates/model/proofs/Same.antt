@@ -10,7 +10,7 @@ use native.Mathlib.Nat.{mul-le-mul}
 use Rattle.model.specs.Assignment.{reads, Valid}
 use Rattle.model.specs.Capacity.{endTime}
 use Rattle.model.specs.Case.{Case, Schedule, endOf, response, HasTime}
-use Rattle.model.specs.Order.{Agree, FirstOf}
+use Rattle.model.specs.Order.{Agree}
 use Rattle.model.specs.Plan.{Optimal}
 use Rattle.model.specs.Shortfall.{size, Sub, NoShorter, Greatest, ShortSet}
 use Rattle.basics.proofs.Count.{count-ext, count-most, latest-le, latest-ext}

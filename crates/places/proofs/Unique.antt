@@ -1,4 +1,4 @@
--- No second answer satisfies a promise; masks are of 64 bits.
+-- No second answer satisfies a promise; masks are of disksMost bits.
 --     moved-unique, shifted-unique     `shift`
 --     open-unique                      `open`, `reopen`
 use Prim.Native.Nat.{ℕ, _+_, _<_, _^_}

@@ -1,5 +1,5 @@
 -- The case that lists spell.
---     caseOf     n disks, q blocks, the disks' costs and starts, and a mask of copies for each block
+--     maskedCase     n disks, q blocks, the disks' costs and starts, and a mask of copies for each block
 --     Table      costs and starts within their limits
 --     Copies     every block has a copy, and copies lie on disks
 use Prim.Native.Nat.{ℕ, _≤_, _<_}
@@ -12,8 +12,8 @@ use Rattle.model.specs.Case.{Case}
 use Rattle.places.specs.Places.{holds}
 
 -- n disks, q blocks, the disks' costs and starts, and a mask of copies for each block
-abbrev pub caseOf : ℕ → ℕ → List ℕ → List ℕ → List ℕ → Case
-caseOf n q masks costs starts =
+abbrev pub maskedCase : ℕ → ℕ → List ℕ → List ℕ → List ℕ → Case
+maskedCase n q masks costs starts =
     record { disks = n; blocks = q; start = λ d. getD starts d 0; cost = λ d. getD costs d 0; copy = holds masks }
 
 -- n disks, each cost at least 1, costs and starts within their limits

@@ -1,7 +1,6 @@
 -- What an answer of the plan reader says: for those who call it.
 --     Took, took       an accepted sheet: its plan, Q, R and m, and the lists
---     refused-kept     on refusal both lists are what they were
-use mathlib.Core.Path.{_≡_, refl, ap, _∙_}
+use mathlib.Core.Path.{_≡_, ap, _∙_}
 use mathlib.Core.List.{List}
 use Prim.Native.Nat.{ℕ}
 use native.Mathlib.Omega.{arith}
@@ -9,13 +8,11 @@ use lib.ListN.{length}
 use Rattle.basics.proofs.Choice.{pick-true, pick-false}
 use Rattle.basics.proofs.Tests.{by-cases}
 use Rattle.field.specs.Sheet.{Out, got, refused}
-use Rattle.field.specs.declared.Refusal.{Refusal}
-use Rattle.field.specs.Refusal.{numberOf}
 use Rattle.plan.specs.declared.Head.{Head}
-use Rattle.plan.specs.declared.Answer.the-variants.{Accepted, Refused}
+use Rattle.plan.specs.declared.Answer.the-variants.{Accepted}
 use Rattle.plan.specs.Plan.{Plan}
 use Rattle.plan.specs.Told.{toldPlan}
-use Rattle.plan.specs.Receive.{roomFor, settle, heads, disksLeft, shortLeft, Received}
+use Rattle.plan.specs.Receive.{roomFor, ifRoom, heads, disksLeft, shortLeft, Received}
 use Rattle.basics.specs.Buffer.{over}
 
 -- an accepted sheet: its plan, Q, R and m, and the lists
@@ -31,11 +28,11 @@ pub record Took (sheet : Out Plan) (bytes : ℕ) (disks short : List ℕ) (h : H
 module _ (bytes : ℕ) (disks short : List ℕ) (h : Head) (disks′ short′ : List ℕ) where
   took-got : (p : Plan) (e : ℕ) → Received (got p e) bytes disks short (Accepted h) disks′ short′
       → Took (got p e) bytes disks short h disks′ short′
-  unfolding toldPlan settle heads disksLeft shortLeft
+  unfolding toldPlan ifRoom heads disksLeft shortLeft
   took-got p e r =
       by-cases (roomFor p disks short)
       (λ t.
-      let x : settle (got p e) disks short ≡ got p e = pick-true (got p e) (refused 11) t in
+      let x : ifRoom (got p e) disks short ≡ got p e = pick-true (got p e) (refused 11) t in
       let a : got h bytes ≡ heads (got p e) = r .answer ∙ ap heads x in
       record {
         plan = p;
@@ -47,26 +44,11 @@ module _ (bytes : ℕ) (disks short : List ℕ) (h : Head) (disks′ short′ : 
         short-left = r .members ∙ ap (λ (o : Out Plan). shortLeft o short) x;
       })
       (λ f.
-      let x : settle (got p e) disks short ≡ refused 11 = pick-false (got p e) (refused 11) f in
+      let x : ifRoom (got p e) disks short ≡ refused 11 = pick-false (got p e) (refused 11) f in
       let a : got h bytes ≡ refused 11 = r .answer ∙ ap heads x in
       absurd (let z : _≡_ {A = ℕ} 0 1 = cc in omega arith))
 
   pub took : (sheet : Out Plan) → Received sheet bytes disks short (Accepted h) disks′ short′ → Took sheet bytes disks short h disks′ short′
-  unfolding toldPlan settle heads
+  unfolding toldPlan ifRoom heads
   took (got p e) r = took-got p e r
   took (refused n) r = absurd (let a : got h bytes ≡ refused n = r .answer in let z : _≡_ {A = ℕ} 0 1 = cc in omega arith)
-
--- on refusal both lists are what they were
-left-kept : (x : Out Plan) (n : ℕ) (disks short : List ℕ) → refused n ≡ heads x → (disksLeft x disks ≡ disks) × (shortLeft x short ≡ short)
-unfolding heads disksLeft shortLeft
-left-kept (got p e) n disks short h = absurd (let z : _≡_ {A = ℕ} 0 1 = cc in omega arith)
-left-kept (refused m) n disks short h = (refl, refl)
-
-pub refused-kept : (sheet : Out Plan) (bytes : ℕ) (disks short disks′ short′ : List ℕ) (e : Refusal)
-    → Received sheet bytes disks short (Refused e) disks′ short′ → (disks′ ≡ disks) × (short′ ≡ short)
-unfolding toldPlan
-refused-kept sheet bytes disks short disks′ short′ e r =
-    let k : (disksLeft (settle sheet disks short) disks ≡ disks)
-    × (shortLeft (settle sheet disks short) short ≡ short) =
-    left-kept (settle sheet disks short) (numberOf e) disks short (r .answer) in
-    (r .blocks ∙ k .0, r .members ∙ k .1)

@@ -23,7 +23,7 @@ use Rattle.field.specs.Refusal.{numberOf}
 use Rattle.field.specs.Told.{told}
 use Rattle.field.proofs.Lists.{prefix}
 use Rattle.basics.specs.Buffer.{over}
-use Rattle.plan.specs.Parts.{ended, Holds, Filled, Checked, Framed}
+use Rattle.plan.specs.Parts.{ended, Holds, ReadInto, Checked, Framed}
 use Rattle.basics.proofs.Choice.{pick-elim, pick-true, pick-false}
 use Rattle.field.specs.Field.{opening, inside, ascending, end, whole}
 use Rattle.field.specs.declared.Field.{Field}
@@ -41,7 +41,7 @@ use Rattle.plan.specs.declared.Frame.{Frame}
 use Rattle.plan.specs.declared.Answer.{Answer}
 use Rattle.plan.specs.declared.Answer.the-variants.{Accepted, Refused}
 use Rattle.plan.specs.Told.{toldPlan}
-use Rattle.plan.specs.Receive.{roomFor, settle, heads, disksLeft, shortLeft, Received}
+use Rattle.plan.specs.Receive.{roomFor, ifRoom, heads, disksLeft, shortLeft, Received}
 use Rattle.basics.specs.Limits.{blocksMost, timeMost}
 
 -- ---- a bound that is 0 for no blocks
@@ -85,11 +85,11 @@ module _ {list rest : Out (List ℕ)} {out after : List ℕ} {i : ℕ} (w : Fill
         long = length-set after i v ∙ w .long;
       }
 
-  pub filling-stop : (e : Refusal) → prefix (take i after) rest ≡ refused (numberOf e) → Filled list out (Refused e) after
+  pub filling-stop : (e : Refusal) → prefix (take i after) rest ≡ refused (numberOf e) → ReadInto list out (Refused e) after
   unfolding told ended Holds
   filling-stop e h = let r : list ≡ refused (numberOf e) = w .read ∙ h in record { answer = sym (ap ended r); held = rw r tt }
 
-  pub filling-done : (e : ℕ) → i ≤ length after → prefix (take i after) rest ≡ got (take i after) e → Filled list out (Got 0 e) after
+  pub filling-done : (e : ℕ) → i ≤ length after → prefix (take i after) rest ≡ got (take i after) e → ReadInto list out (Got 0 e) after
   unfolding told ended Holds over
   filling-done e l h =
       let r : list ≡ got (take i after) e = w .read ∙ h in
@@ -274,15 +274,15 @@ module _ (unit t : ℕ) (s : List ℕ) where
 -- the sheet is refused
 pub received-refused : (sheet : Out Plan) (bytes : ℕ) (disks short : List ℕ) (e : Refusal) → sheet ≡ refused (numberOf e)
     → Received sheet bytes disks short (Refused e) disks short
-unfolding toldPlan settle heads disksLeft shortLeft
+unfolding toldPlan ifRoom heads disksLeft shortLeft
 received-refused sheet bytes disks short e h = rw h (record { answer = refl; blocks = refl; members = refl })
 
 module _ (p : Plan) (e : ℕ) (disks short : List ℕ) where
   -- a list is too short
   no-room : roomFor p disks short ≡ false → Received (got p e) e disks short (Refused NoRoom) disks short
-  unfolding toldPlan settle heads disksLeft shortLeft
+  unfolding toldPlan ifRoom heads disksLeft shortLeft
   no-room h =
-      let x : settle (got p e) disks short ≡ refused 11 = pick-false (got p e) (refused 11) h in
+      let x : ifRoom (got p e) disks short ≡ refused 11 = pick-false (got p e) (refused 11) h in
       record {
         answer = sym (ap heads x);
         blocks = sym (ap (λ (o : Out Plan). disksLeft o disks) x);
@@ -304,12 +304,12 @@ module _ (p : Plan) (e : ℕ) (disks short : List ℕ) where
     pub received : {disks′ short′ : List ℕ} (high : ℕ) → high ≡ f .blocks - 1 → f .blocks ≤ length disks → f .size ≤ length short
         → Holds (times (f .blocks) disk s (f .disks)) disks disks′ → Holds (ascending (f .size) 0 high s (f .short)) short short′
         → Received (got p e) e disks short (Accepted (record { blocks = f .blocks; time = f .time; size = f .size })) disks′ short′
-    unfolding roomFor toldPlan settle heads disksLeft shortLeft Holds
+    unfolding roomFor toldPlan ifRoom heads disksLeft shortLeft Holds
     received {disks′} {short′} high top k l a b =
         let room : roomFor p disks short
         ≡ true = and-both _ _ (le-leb (length (p .disks)) (length disks) (omega (arith, w .blocks)))
         (le-leb (length (p .short)) (length short) (omega (arith, w .size))) in
-        let x : settle (got p e) disks short ≡ got p e = pick-true (got p e) (refused 11) room in
+        let x : ifRoom (got p e) disks short ≡ got p e = pick-true (got p e) (refused 11) room in
         let ds : disks′ ≡ over (p .disks) disks = rw (w .disks) at a in
         let bs : short′ ≡ over (p .short) short = rw (w .short) at (rw top at b) in
         record {

@@ -1,6 +1,6 @@
 -- What the private functions promise: a plan sheet is read to its end before a lent list is touched.
 --     ended       where a list ended, without its values
---     Filled      a list was read into the start of a buffer
+--     ReadInto      a list was read into the start of a buffer
 --     Framed      where a plan's lists stand on its sheet
 --     Checked     a sheet was read to its end
 --     headingBytes     the bytes of the fields before the disks
@@ -33,7 +33,7 @@ Holds (got xs e) out after = after ≡ over xs out
 Holds (refused n) out after = Unit
 
 -- a list was read: the answer, and the buffer afterwards
-pub record Filled (list : Out (List ℕ)) (out : List ℕ) (r : Field) (after : List ℕ) : Type 0 where
+pub record ReadInto (list : Out (List ℕ)) (out : List ℕ) (r : Field) (after : List ℕ) : Type 0 where
   pub answer : told r ≡ ended list
   pub held : Holds list out after
 

@@ -1,5 +1,5 @@
 -- What the plan reader answers, and what it leaves in the two lent lists.
---     settle        what the sheet says, with 11 last of all
+--     ifRoom        what the sheet says, with 11 last of all
 --     heads         what is answered
 --     disksLeft, shortLeft     the lent lists afterwards
 --     Received      the three together
@@ -22,9 +22,9 @@ unfoldable pub roomFor : Plan → List ℕ → List ℕ → Bool
 roomFor p disks short = leb (length (p .disks)) (length disks) && leb (length (p .short)) (length short)
 
 -- an accepted sheet is refused with 11 where either list is too short
-unfoldable pub settle : Out Plan → List ℕ → List ℕ → Out Plan
-settle (got p e) disks short = pick (roomFor p disks short) (got p e) (refused 11)
-settle (refused n) disks short = refused n
+unfoldable pub ifRoom : Out Plan → List ℕ → List ℕ → Out Plan
+ifRoom (got p e) disks short = pick (roomFor p disks short) (got p e) (refused 11)
+ifRoom (refused n) disks short = refused n
 
 -- Q, R and m
 unfoldable pub heads : Out Plan → Out Head
@@ -43,6 +43,6 @@ shortLeft (refused n) list = list
 
 -- what the sheet says, for lists that held these entries: the answer, and what the lists then hold
 pub record Received (sheet : Out Plan) (bytes : ℕ) (disks short : List ℕ) (r : Answer) (disks′ short′ : List ℕ) : Type 0 where
-  pub answer : toldPlan bytes r ≡ heads (settle sheet disks short)
-  pub blocks : disks′ ≡ disksLeft (settle sheet disks short) disks
-  pub members : short′ ≡ shortLeft (settle sheet disks short) short
+  pub answer : toldPlan bytes r ≡ heads (ifRoom sheet disks short)
+  pub blocks : disks′ ≡ disksLeft (ifRoom sheet disks short) disks
+  pub members : short′ ≡ shortLeft (ifRoom sheet disks short) short

@@ -18,7 +18,7 @@ ghost use Rattle.field.specs.Told.{told};
 ghost use Rattle.plan.specs.Plan.{Plan, planOf, disk, ifAny, listsOf, planSheet};
 ghost use Rattle.plan.specs.Receive.{Received};
 ghost use Rattle.plan.specs.Draft.{planBytes, planDraft};
-ghost use Rattle.plan.specs.Parts.{ended, Filled, Framed, Checked, headingBytes};
+ghost use Rattle.plan.specs.Parts.{ended, ReadInto, Framed, Checked, headingBytes};
 
 // What an accepted plan sheet says, beside its two lists.
 pub struct Head {
@@ -68,7 +68,7 @@ fn last(q: u32) -> u32
 // The disks of q blocks, put at the start of a list.
 fn read_disks(s: &[u8], at: usize, q: u32, out: &mut [u8]) -> Field
     requires { ⌜ q ≤ length (now out) ⌝ }
-    ensures { λ r. ⌜ Filled (times q disk (now (s .entry)) at) (now (out .entry)) r (now (out .exit)) ⌝ }
+    ensures { λ r. ⌜ ReadInto (times q disk (now (s .entry)) at) (now (out .entry)) r (now (out .exit)) ⌝ }
 {
     let n = q as usize;
     let mut p = at;
@@ -89,7 +89,7 @@ fn read_disks(s: &[u8], at: usize, q: u32, out: &mut [u8]) -> Field
 // The m rising block numbers up to the last one, put at the start of a list.
 fn read_short(s: &[u8], at: usize, m: u32, high: u32, out: &mut [u16]) -> Field
     requires { ⌜ (m ≤ length (now out)) × (high < blocksMost) ⌝ }
-    ensures { λ r. ⌜ Filled (ascending m 0 high (now (s .entry)) at) (now (out .entry)) r (now (out .exit)) ⌝ }
+    ensures { λ r. ⌜ ReadInto (ascending m 0 high (now (s .entry)) at) (now (out .entry)) r (now (out .exit)) ⌝ }
 {
     let n = m as usize;
     let mut p = at;

@@ -3,11 +3,13 @@
 --     lent                          the lists that were asked for can be lent, cut to Q and N
 --     answered-plan, answered-not   the sheet of the plan was sent; the refusal stands
 use mathlib.Core.Path.{_≡_, refl, sym, ap, _∙_, subst}
-use mathlib.Core.List.{List, [], _++_, map}
+use mathlib.Core.List.{List, [], map}
 use Prim.Native.Nat.{ℕ, _-_, _≤_}
 use native.Mathlib.Omega.{arith}
-use lib.ListN.{length, take, replicate, take-append-drop}
+use lib.ListN.{length, take, replicate}
 use Rattle.basics.specs.Limits.{disksMost, blocksMost}
+use Rattle.basics.specs.Padded.{padTo}
+use Rattle.basics.proofs.Padded.{pad-within, pad-front, pad-whole}
 use Rattle.model.specs.Case.{Case}
 use Rattle.field.specs.declared.Refusal.{Refusal}
 use Rattle.field.specs.declared.Written.{Written}
@@ -16,23 +18,22 @@ use Rattle.field.specs.Refusal.{numberOf}
 use Rattle.field.specs.Sheet.{Out, got, refused}
 use Rattle.field.proofs.Sends.{sent-refused}
 use Rattle.settings.specs.declared.Table.{Table}
-use Rattle.settings.specs.Table.{disksOf, costs, Filled}
+use Rattle.settings.specs.Table.{diskRows, costs, Proper}
 use Rattle.request.specs.declared.Answer.the-variants.{Accepted, Refused}
 use Rattle.request.specs.declared.Request.{Request}
 use Rattle.request.specs.Request.{requestSheet}
-use Rattle.request.specs.Told.{toldAnswer, padded, Answered as Read}
+use Rattle.request.specs.Told.{toldAnswer, copiesOf, Told as Read}
 use Rattle.request.proofs.Accepted.{Accepts, accepted, refused-sheet}
-use Rattle.planner.specs.declared.Asked.{Asked}
+use Rattle.planner.specs.declared.Spelling.{Spelling}
 use Rattle.planner.specs.Answered.{draftOf, Answered}
-use Rattle.planner.specs.Asked.{startOf, caseOf, caseIn, asked, Plans}
-use Rattle.planner.specs.Lists.{padTo, Spells, sized, caseOr, Asks}
+use Rattle.planner.specs.Asked.{startOf, tableCase, caseIn, asked, Plans}
+use Rattle.planner.specs.Lists.{Spells, sized, caseOr, Asks}
 use Rattle.planner.specs.Parts.{Columns, Lent, caseLent, Solved}
-use Rattle.planner.proofs.Lists.{pad-within, pad-front}
 use Rattle.planner.proofs.Plannable.{length-costs, length-starts, asked-plannable}
 
 -- ---- what the reader of requests said
 
-module _ (number tenancy : ℕ) {t : Table} (w : Filled t) (s : List ℕ) {r : Request}
+module _ (number tenancy : ℕ) {t : Table} (w : Proper t) (s : List ℕ) {r : Request}
     (a : Read (length s) (requestSheet number tenancy (t .disks) s 0) r) where
   pub asks-case : {q : ℕ} {cs ss : List ℕ} → r .answer ≡ Accepted q → Columns t cs ss
       → Asks (asked number tenancy t s) (length s) (record {
@@ -42,22 +43,20 @@ module _ (number tenancy : ℕ) {t : Table} (w : Filled t) (s : List ℕ) {r : R
         costs = cs;
         starts = ss;
       })
-  unfolding asked caseIn toldAnswer sized caseOr caseOf padTo
+  unfolding asked caseIn toldAnswer sized caseOr tableCase
   asks-case {q} {cs} {ss} h c =
       let k : Accepts number tenancy (t .disks) s q (r .copies) = accepted number tenancy (t .disks) s q r (w .few) a h in
-      let x : Asked = record { answer = Accepted q; disks = t .disks; copies = r .copies; costs = cs; starts = ss } in
+      let x : Spelling = record { answer = Accepted q; disks = t .disks; copies = r .copies; costs = cs; starts = ss } in
       subst (λ (o : Out Case). Asks o (length s) x) (sym (ap (caseIn t) (k .sheet))) (record {
         answer = ap (λ (i : ℕ). got i (length s)) (sym (k .count));
         lists = record {
           copies = take q (r .copies);
           costs = costs t;
-          starts = map startOf (disksOf t);
+          starts = map startOf (diskRows t);
           starts-long = length-starts w ∙ sym (length-costs w);
           case = refl;
           disks = sym (length-costs w);
-          copies-held =
-              sym (take-append-drop q (r .copies))
-              ∙ ap (λ (z : List ℕ). take q (r .copies) ++ z) (k .beyond ∙ ap (λ (i : ℕ). replicate (blocksMost - i) 0) (sym (k .count)));
+          copies-held = pad-whole 0 blocksMost (r .copies) q (k .count) (k .beyond);
           costs-held = c .costs-held;
           starts-held = c .starts-held;
         };
@@ -71,11 +70,11 @@ module _ (number tenancy : ℕ) {t : Table} (w : Filled t) (s : List ℕ) {r : R
         costs = replicate disksMost 0;
         starts = replicate disksMost 0;
       })
-  unfolding asked caseIn toldAnswer sized caseOr padTo padded
+  unfolding asked caseIn toldAnswer sized caseOr padTo copiesOf
   asks-refused {e} h =
       let k : requestSheet number tenancy (t .disks) s 0 ≡ refused (numberOf e) = refused-sheet (length s) _ r e a h in
       let z : List ℕ = replicate disksMost 0 in
-      let x : Asked = record { answer = Refused e; disks = 0; copies = r .copies; costs = z; starts = z } in
+      let x : Spelling = record { answer = Refused e; disks = 0; copies = r .copies; costs = z; starts = z } in
       subst (λ (o : Out Case). Asks o (length s) x) (sym (ap (caseIn t) k)) (record {
         answer = refl;
         lists = record {
@@ -85,7 +84,7 @@ module _ (number tenancy : ℕ) {t : Table} (w : Filled t) (s : List ℕ) {r : R
           starts-long = refl;
           case = refl;
           disks = refl;
-          copies-held = a .held ∙ ap padded k;
+          copies-held = a .held ∙ ap copiesOf k;
           costs-held = refl;
           starts-held = refl;
         };
@@ -93,27 +92,27 @@ module _ (number tenancy : ℕ) {t : Table} (w : Filled t) (s : List ℕ) {r : R
 
 -- ---- the lists, cut to Q and N
 
-record Cut (o : Out Case) (bytes : ℕ) (r : Asked) (q : ℕ) : Type 0 where
+record Cut (o : Out Case) (bytes : ℕ) (r : Spelling) (q : ℕ) : Type 0 where
   copies-long : q ≤ length (r .copies)
   costs-long : r .disks ≤ length (r .costs)
   starts-long : r .disks ≤ length (r .starts)
   same-long : length (take (r .disks) (r .starts)) ≡ length (take (r .disks) (r .costs))
   case : o ≡ got (caseLent r q) bytes
 
-module _ {bytes : ℕ} (r : Asked) (q : ℕ) where
+module _ {bytes : ℕ} (r : Spelling) (q : ℕ) where
   cut-case : (m : Case) → q ≡ m .blocks → Spells m r → Cut (got m bytes) bytes r q
   cut-case m e v =
       let nc : length (v .copies) ≡ q = ap (λ (x : Case). x .blocks) (v .case) ∙ sym e in
       let nk : length (v .costs) ≡ r .disks = ap (λ (x : Case). x .disks) (v .case) ∙ sym (v .disks) in
       let ns : length (v .starts) ≡ r .disks = v .starts-long ∙ nk in
-      let c : take q (r .copies) ≡ v .copies = ap (take q) (v .copies-held) ∙ pad-front blocksMost (v .copies) q nc in
+      let c : take q (r .copies) ≡ v .copies = ap (take q) (v .copies-held) ∙ pad-front 0 blocksMost (v .copies) q nc in
       let n = r .disks in
-      let k : take n (r .costs) ≡ v .costs = ap (take n) (v .costs-held) ∙ pad-front disksMost (v .costs) n nk in
-      let s : take n (r .starts) ≡ v .starts = ap (take n) (v .starts-held) ∙ pad-front disksMost (v .starts) n ns in
+      let k : take n (r .costs) ≡ v .costs = ap (take n) (v .costs-held) ∙ pad-front 0 disksMost (v .costs) n nk in
+      let s : take n (r .starts) ≡ v .starts = ap (take n) (v .starts-held) ∙ pad-front 0 disksMost (v .starts) n ns in
       record {
-        copies-long = omega (arith, ap length (v .copies-held), pad-within blocksMost (v .copies), nc);
-        costs-long = omega (arith, ap length (v .costs-held), pad-within disksMost (v .costs), nk);
-        starts-long = omega (arith, ap length (v .starts-held), pad-within disksMost (v .starts), ns);
+        copies-long = omega (arith, ap length (v .copies-held), pad-within 0 blocksMost (v .copies), nc);
+        costs-long = omega (arith, ap length (v .costs-held), pad-within 0 disksMost (v .costs), nk);
+        starts-long = omega (arith, ap length (v .starts-held), pad-within 0 disksMost (v .starts), ns);
         same-long = ap length s ∙ v .starts-long ∙ sym (ap length k);
         case = ap (λ (x : Case). got x bytes) (sym (v .case) ∙ rw (c, k, s) refl);
       }
@@ -129,7 +128,7 @@ module _ {bytes : ℕ} (r : Asked) (q : ℕ) where
       absurd (let k : got q bytes ≡ refused n = sym (ap (toldAnswer bytes) h) ∙ a .answer in let z : _≡_ {A = ℕ} 0 1 = cc in omega arith)
 
 -- what was asked can be lent, and its case is that of the lists
-pub lent : (number tenancy : ℕ) {t : Table} (s : List ℕ) {r : Asked} {q : ℕ} → Filled t → Asks (asked number tenancy t s) (length s) r
+pub lent : (number tenancy : ℕ) {t : Table} (s : List ℕ) {r : Spelling} {q : ℕ} → Proper t → Asks (asked number tenancy t s) (length s) r
     → r .answer ≡ Accepted q → Lent r q
 lent number tenancy s {r} {q} w a h =
     let c = cut-of r q _ a h in
@@ -138,20 +137,20 @@ lent number tenancy s {r} {q} w a h =
 
 -- ---- the answer
 
-pub answered-plan : {number tenancy : ℕ} {o : Out Case} {bytes : ℕ} {r : Asked} {q : ℕ} {out after : List ℕ} {x : Written} → Asks o bytes r
-    → r .answer ≡ Accepted q → Solved number tenancy (caseLent r q) out x after → Answered number tenancy o out x after
+pub answered-plan : {number tenancy : ℕ} {o : Out Case} {bytes : ℕ} {r : Spelling} {q : ℕ} {out after : List ℕ} {x : Written}
+    → Asks o bytes r → r .answer ≡ Accepted q → Solved number tenancy (caseLent r q) out x after → Answered number tenancy o out x after
 unfolding Plans draftOf
 answered-plan {o = o} {bytes = bytes} {r = r} {q = q} a h w =
     record { plan = got (w .plan) bytes; plans = rw (cut-of r q o a h .case) (w .plan, w .is, refl); sent = w .sent }
 
-refused-of : (o : Out Case) {bytes : ℕ} (r : Asked) {e : Refusal} → Asks o bytes r → r .answer ≡ Refused e → o ≡ refused (numberOf e)
+refused-of : (o : Out Case) {bytes : ℕ} (r : Spelling) {e : Refusal} → Asks o bytes r → r .answer ≡ Refused e → o ≡ refused (numberOf e)
 unfolding toldAnswer sized
 refused-of (got m i) {bytes} r {e} a h =
     let k : refused (numberOf e) ≡ got (m .blocks) i = sym (ap (toldAnswer bytes) h) ∙ a .answer in
     absurd (let z : _≡_ {A = ℕ} 0 1 = cc in omega arith)
 refused-of (refused n) {bytes} r {e} a h = let k : refused (numberOf e) ≡ refused n = sym (ap (toldAnswer bytes) h) ∙ a .answer in cc
 
-pub answered-not : {number tenancy : ℕ} {o : Out Case} {bytes : ℕ} {r : Asked} {e : Refusal} (out : List ℕ) → Asks o bytes r
+pub answered-not : {number tenancy : ℕ} {o : Out Case} {bytes : ℕ} {r : Spelling} {e : Refusal} (out : List ℕ) → Asks o bytes r
     → r .answer ≡ Refused e → Answered number tenancy o out (NotWritten e) out
 unfolding Plans draftOf
 answered-not {o = o} {r = r} {e = e} out a h =

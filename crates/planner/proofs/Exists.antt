@@ -19,7 +19,7 @@ use Rattle.model.proofs.Existence.{plan-exists}
 use Rattle.model.proofs.Same.{optimal-same}
 use Rattle.basics.proofs.Tests.{below-or}
 use Rattle.settings.specs.declared.Table.{Table}
-use Rattle.settings.specs.Table.{Filled}
+use Rattle.settings.specs.Table.{Proper}
 use Rattle.plan.specs.Plan.{Plan}
 use Rattle.planner.specs.Asked.{asked, Plannable, PlanFor, Plans}
 use Rattle.planner.proofs.Plannable.{priced, plan-for, asked-plannable}
@@ -113,5 +113,5 @@ unfolding Plans
 plans-of (refused n) h = (refused n, refl)
 plans-of (got m e) h = let p = plan-for-exists (h m e refl) in (got (p .0) e, (p .0, p .1, refl))
 
-pub plans-exist : (number tenancy : ℕ) {t : Table} (s : List ℕ) → Filled t → (x : Out Plan) × Plans (asked number tenancy t s) x
+pub plans-exist : (number tenancy : ℕ) {t : Table} (s : List ℕ) → Proper t → (x : Out Plan) × Plans (asked number tenancy t s) x
 plans-exist number tenancy s w = plans-of (asked number tenancy _ s) (λ m e h. asked-plannable w number tenancy s h)

@@ -1,10 +1,9 @@
 -- What the engine found is the plan of the case that the lists spell.
 --     ready          the lists can be lent to the engine
 --     found-plan     what the engine found, cut to the request's blocks
-use mathlib.Core.Path.{_≡_, refl, sym, ap, _∙_, subst, fun-ext}
-use mathlib.Core.Bool.{Bool}
+use mathlib.Core.Path.{_≡_, refl, sym, _∙_, subst, fun-ext}
 use mathlib.Core.List.{List}
-use Prim.Native.Nat.{ℕ, _-_, _≤_, _<_}
+use Prim.Native.Nat.{ℕ, _≤_}
 use native.Mathlib.Omega.{arith}
 use borrow.Author.Tests.{ltb-true, ltb-false}
 use lib.Dec.{ltb}
@@ -12,12 +11,12 @@ use lib.ListN.{length, getD, take, replicate, length-replicate, List·getD-eq-de
 use lib.Seq.{getD-take, length-take-le}
 use Rattle.basics.specs.Limits.{blocksMost}
 use Rattle.basics.proofs.Tests.{by-cases}
-use Rattle.basics.specs.Lists.{Rises, listed}
-use Rattle.basics.proofs.Lists.{replicate-at, rises-by, listed-take}
+use Rattle.basics.specs.Lists.{listed}
+use Rattle.basics.proofs.Lists.{replicate-at}
 use Rattle.model.specs.Case.{Held}
 use Rattle.model.specs.Plan.{Optimal}
-use Rattle.engine.specs.declared.Answer.{Answer}
-use Rattle.engine.specs.Planned.{Planned, listed as listedFirst}
+use Rattle.engine.specs.declared.Found.{Found}
+use Rattle.engine.specs.Planned.{Planned}
 use Rattle.engine.specs.Spelled.{spelled, Ready}
 use Rattle.planner.specs.Asked.{PlanFor}
 use Rattle.planner.specs.Parts.{Solvable, cutTo}
@@ -45,7 +44,7 @@ ready {copies} disks short w k l =
 
 -- ---- the plan
 
-module _ {copies costs starts disks short : List ℕ} {r : Answer} (w : Solvable copies costs starts)
+module _ {copies costs starts disks short : List ℕ} {r : Found} (w : Solvable copies costs starts)
     (h : Planned copies costs starts (replicate blocksMost 0) (replicate blocksMost 0) disks short r) where
   few : length copies ≤ blocksMost
   few = w .plannable .blocks-few
@@ -55,7 +54,7 @@ module _ {copies costs starts disks short : List ℕ} {r : Answer} (w : Solvable
   disks-room = omega (arith, h .disks-long, length-replicate {A = ℕ} blocksMost 0, few)
 
   pub short-room : r .size ≤ length short
-  short-room = omega (arith, h .set .short-long, length-replicate {A = ℕ} blocksMost 0, few, h .set .few)
+  short-room = h .set .fits
 
   count-blocks : length (take (length copies) disks) ≡ length copies
   count-blocks = length-take-le (length copies) disks disks-room
@@ -74,25 +73,10 @@ module _ {copies costs starts disks short : List ℕ} {r : Answer} (w : Solvable
       ∙ sym (List·getD-eq-default (take (length copies) disks) 0 {n = b} (omega (arith, count-blocks))))
 
   optimal : Optimal (spelled copies costs starts) (r .time) (λ b. getD (take (length copies) disks) b 0) (listed (take (r .size) short))
-  unfolding listedFirst
   optimal =
       subst (λ (a : ℕ → ℕ). Optimal (spelled copies costs starts) (r .time) a (listed (take (r .size) short))) (fun-ext cut-disk)
-      (subst (λ (S : ℕ → Bool). Optimal (spelled copies costs starts) (r .time) (λ b. getD disks b 0) S)
-      (fun-ext λ b. listed-take short (r .size) b short-room) (h .plan))
-
-  at-short : (i : ℕ) → i < r .size → getD (take (r .size) short) i 0 ≡ getD short i 0
-  at-short i l = getD-take (r .size) short i 0 l
-
-  rising : Rises 0 (length copies - 1) (take (r .size) short)
-  rising =
-      rises-by 0 (length copies - 1) (take (r .size) short)
-      (λ i l.
-      let k : i < r .size = omega (arith, count-short) in
-      (omega arith, omega (arith, at-short i k, h .set .below i k)))
-      (λ i j l k.
-      let n : j < r .size = omega (arith, count-short) in
-      omega (arith, at-short i (omega arith), at-short j n, h .set .rising i j l n))
+      (h .plan)
 
   pub found-plan : PlanFor (spelled copies costs starts) (cutTo (length copies) disks short r)
   unfolding cutTo
-  found-plan = plan-for (w .plannable) _ count-blocks (omega (arith, count-short, h .set .few)) rising optimal
+  found-plan = plan-for (w .plannable) _ count-blocks (omega (arith, count-short, h .set .few)) (h .set .rises) optimal

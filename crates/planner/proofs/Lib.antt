@@ -1,4 +1,3 @@
-pub mod Lists
 pub mod Rows
 pub mod Plannable
 pub mod Plans

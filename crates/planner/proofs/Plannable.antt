@@ -23,38 +23,38 @@ use Rattle.basics.specs.Lists.{All, Rises, listed}
 use Rattle.basics.proofs.Lists.{all-at, all-by}
 use Rattle.field.specs.Sheet.{Out, got, refused}
 use Rattle.settings.specs.declared.Table.{Table}
-use Rattle.settings.specs.Table.{disksOf, costs, Filled}
+use Rattle.settings.specs.Table.{diskRows, costs, Proper}
 use Rattle.request.specs.Request.{requestSheet}
 use Rattle.request.proofs.Accepted.{sheet-blocks}
 use Rattle.request.proofs.Writing.{Sendable}
 use Rattle.plan.specs.Plan.{Plan, ifAny}
-use Rattle.planner.specs.Asked.{startOf, caseOf, caseIn, asked, Plannable, PlanFor}
+use Rattle.planner.specs.Asked.{startOf, tableCase, caseIn, asked, Plannable, PlanFor}
 use Rattle.planner.proofs.Rows.{count-disks, row-in, start-small, column-at}
 
 -- ---- the case
 
 case-got : (t : Table) (o : Out (List ℕ)) {m : Case} {e : ℕ} → caseIn t o ≡ got m e
-    → (copies : List ℕ) × (o ≡ got copies e) × (caseOf t copies ≡ m)
+    → (copies : List ℕ) × (o ≡ got copies e) × (tableCase t copies ≡ m)
 unfolding caseIn
 case-got t (got copies e) h = (copies, cc, cc)
 case-got t (refused n) h = absurd (let z : _≡_ {A = ℕ} 0 1 = cc in omega arith)
 
 pub asked-got : (number tenancy : ℕ) (t : Table) (s : List ℕ) {m : Case} {e : ℕ} → asked number tenancy t s ≡ got m e
-    → (copies : List ℕ) × (requestSheet number tenancy (t .disks) s 0 ≡ got copies e) × (caseOf t copies ≡ m)
+    → (copies : List ℕ) × (requestSheet number tenancy (t .disks) s 0 ≡ got copies e) × (tableCase t copies ≡ m)
 unfolding asked
 asked-got number tenancy t s h = case-got t _ h
 
-module _ {t : Table} (w : Filled t) where
+module _ {t : Table} (w : Proper t) where
   pub length-costs : length (costs t) ≡ t .disks
   unfolding costs
-  length-costs = length-map (disksOf t) (λ r. r .cost) ∙ count-disks w
+  length-costs = length-map (diskRows t) (λ r. r .cost) ∙ count-disks w
 
-  pub length-starts : length (map startOf (disksOf t)) ≡ t .disks
-  length-starts = length-map (disksOf t) startOf ∙ count-disks w
+  pub length-starts : length (map startOf (diskRows t)) ≡ t .disks
+  length-starts = length-map (diskRows t) startOf ∙ count-disks w
 
   copies-plannable : (copies : List ℕ) → 0 < t .disks → length copies ≤ blocksMost → All (Sendable (t .disks)) copies
-      → Plannable (caseOf t copies)
-  unfolding caseOf costs Held startOf
+      → Plannable (tableCase t copies)
+  unfolding tableCase costs Held startOf
   copies-plannable copies some few each = record {
     disks-some = omega (arith, length-costs);
     disks-few = omega (arith, length-costs, w .few);

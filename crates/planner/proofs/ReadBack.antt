@@ -17,14 +17,14 @@ use Rattle.field.proofs.Opened.{opening-tenancy}
 use Rattle.model.specs.Case.{Case}
 use Rattle.model.specs.Time.{LeastTime, GreatestEarliest}
 use Rattle.settings.specs.declared.Table.{Table}
-use Rattle.settings.specs.Table.{Filled}
+use Rattle.settings.specs.Table.{Proper}
 use Rattle.request.specs.Request.{requestSheet}
 use Rattle.request.proofs.Reading.{sheet-got}
 use Rattle.plan.specs.declared.Answer.{Answer}
 use Rattle.plan.specs.declared.Answer.the-variants.{Accepted, Refused}
 use Rattle.plan.specs.declared.Head.{Head}
 use Rattle.plan.specs.Plan.{Plan, planSheet}
-use Rattle.plan.specs.Receive.{roomFor, settle, heads, disksLeft, shortLeft, Received}
+use Rattle.plan.specs.Receive.{roomFor, ifRoom, heads, disksLeft, shortLeft, Received}
 use Rattle.plan.specs.Told.{toldPlan}
 use Rattle.basics.proofs.Buffer.{over-front}
 use Rattle.plan.proofs.RoundTrip.{read-written, same-plan}
@@ -43,11 +43,11 @@ accepted-head bytes (Refused r) h e = absurd (let z : _≡_ {A = ℕ} 0 1 = cc i
 module _ {o : Out Plan} {bytes : ℕ} {disks short disks′ short′ : List ℕ} {a : Answer} where
   pub received-plan : (p : Plan) → o ≡ got p bytes → length (p .disks) ≤ length disks → length (p .short) ≤ length short
       → Received o bytes disks short a disks′ short′ → (h : Head) × (a ≡ Accepted h) × (handed h disks′ short′ ≡ p)
-  unfolding settle heads disksLeft shortLeft roomFor
+  unfolding ifRoom heads disksLeft shortLeft roomFor
   received-plan p e l k r =
       let h : Head = record { blocks = length (p .disks); time = p .time; size = length (p .short) } in
-      let s : settle o disks short ≡ got p bytes =
-      ap (λ (x : Out Plan). settle x disks short) e ∙ pick-true _ _ (and-both _ _ (le-leb _ _ l) (le-leb _ _ k)) in
+      let s : ifRoom o disks short ≡ got p bytes =
+      ap (λ (x : Out Plan). ifRoom x disks short) e ∙ pick-true _ _ (and-both _ _ (le-leb _ _ l) (le-leb _ _ k)) in
       let nd = length (p .disks) in
       let ns = length (p .short) in
       let ds : take nd disks′ ≡ p .disks =
@@ -61,7 +61,7 @@ module _ {o : Out Plan} {bytes : ℕ} {disks short disks′ short′ : List ℕ}
 request-tenancy : (number tenancy n : ℕ) (s ms : List ℕ) (e : ℕ) → requestSheet number tenancy n s 0 ≡ got ms e → 0 < tenancy
 request-tenancy number tenancy n s ms e h = opening-tenancy number tenancy (2 ∷ []) s 0 (sheet-got number tenancy n s ms e h .headed .first)
 
-module _ (number tenancy : ℕ) {t : Table} (s : List ℕ) (w : Filled t) (i : number < 2 ^ 32) (j : tenancy < 2 ^ 32)
+module _ (number tenancy : ℕ) {t : Table} (s : List ℕ) (w : Proper t) (i : number < 2 ^ 32) (j : tenancy < 2 ^ 32)
     {m : Case} {e : ℕ} (g : asked number tenancy t s ≡ got m e) {out after : List ℕ} {n : ℕ}
     (a : Answered number tenancy (asked number tenancy t s) out (Length n) after) where
   pub answered-read : (p : Plan) × PlanFor m p × (planSheet number tenancy (take n after) 0 ≡ got p n)

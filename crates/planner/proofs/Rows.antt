@@ -10,56 +10,56 @@ use borrow.Author.Count.{below-more}
 use lib.ListN.{length, getD, set, length-set, length-map, List·getD-map, List·getD-eq-default}
 use lib.Seq.{getD-set-same, getD-set-other, getD-take, length-take-le, ext-getD}
 use Rattle.basics.specs.Limits.{disksMost, startMost}
+use Rattle.basics.specs.Padded.{padTo}
+use Rattle.basics.proofs.Padded.{pad-length, pad-at}
 use Rattle.basics.proofs.Tests.{lt-or-le}
 use Rattle.settings.specs.declared.Row.{Row}
 use Rattle.settings.specs.declared.Table.{Table}
 use Rattle.settings.specs.Row.{disk}
-use Rattle.settings.specs.Table.{disksOf, costs, Filled}
-use Rattle.settings.proofs.Accepted.{filled-length, filled-good, filled-zero}
+use Rattle.settings.specs.Table.{diskRows, costs, Proper}
+use Rattle.settings.proofs.Accepted.{proper-length, proper-good, proper-zero}
 use Rattle.settings.proofs.Rows.{InRange, in-range}
 use Rattle.planner.specs.Asked.{startOf}
-use Rattle.planner.specs.Lists.{padTo}
 use Rattle.planner.specs.Parts.{Columns}
-use Rattle.planner.proofs.Lists.{pad-length, pad-at}
 
 -- ---- the rows of a table
 
 abbrev rowAt : Table → ℕ → Row
 rowAt t i = getD (t .rows) i (disk 0 0 0)
 
-module _ {t : Table} (w : Filled t) where
-  pub count-disks : length (disksOf t) ≡ t .disks
-  unfolding disksOf
-  count-disks = length-take-le (t .disks) (t .rows) (omega (arith, filled-length w, w .few))
+module _ {t : Table} (w : Proper t) where
+  pub count-disks : length (diskRows t) ≡ t .disks
+  unfolding diskRows
+  count-disks = length-take-le (t .disks) (t .rows) (omega (arith, proper-length w, w .few))
 
   pub row-in : (d : ℕ) → d < t .disks → InRange (rowAt t d)
-  row-in d l = in-range _ (filled-good w d l)
+  row-in d l = in-range _ (proper-good w d l)
 
   pub start-small : (i : ℕ) → startOf (rowAt t i) ≤ startMost
   unfolding startOf
   start-small i =
       ⊎-elim
       (λ l. omega (arith, row-in i l .load-high, row-in i l .delay-high))
-      (λ l. rw (filled-zero w i l) (omega arith))
+      (λ l. rw (proper-zero w i l) (omega arith))
       (lt-or-le i (t .disks))
 
   module _ (f : Row → ℕ) (z : f (disk 0 0 0) ≡ 0) where
     -- a column, by its row
-    pub column-at : (i : ℕ) → getD (map f (disksOf t)) i 0 ≡ f (rowAt t i)
-    unfolding disksOf
+    pub column-at : (i : ℕ) → getD (map f (diskRows t)) i 0 ≡ f (rowAt t i)
+    unfolding diskRows
     column-at i =
-        ap (getD (map f (disksOf t)) i) (sym z) ∙ List·getD-map f (disksOf t) i (disk 0 0 0)
+        ap (getD (map f (diskRows t)) i) (sym z) ∙ List·getD-map f (diskRows t) i (disk 0 0 0)
         ∙ ap f (⊎-elim
         (λ l. getD-take (t .disks) (t .rows) i (disk 0 0 0) l)
-        (λ l. List·getD-eq-default (disksOf t) (disk 0 0 0) {n = i} (omega (arith, count-disks)) ∙ sym (filled-zero w i l))
+        (λ l. List·getD-eq-default (diskRows t) (disk 0 0 0) {n = i} (omega (arith, count-disks)) ∙ sym (proper-zero w i l))
         (lt-or-le i (t .disks)))
 
     column-whole : (xs : List ℕ) → length xs ≡ disksMost → ((i : ℕ) → i < disksMost → getD xs i 0 ≡ f (rowAt t i))
-        → xs ≡ padTo disksMost (map f (disksOf t))
+        → xs ≡ padTo 0 disksMost (map f (diskRows t))
     column-whole xs l h =
-        let k : length (map f (disksOf t)) ≤ disksMost = omega (arith, length-map (disksOf t) f, count-disks, w .few) in
-        ext-getD 0 xs _ (l ∙ sym (pad-length disksMost (map f (disksOf t)) k)) λ i m.
-        h i (omega (arith, l)) ∙ sym (column-at i) ∙ sym (pad-at disksMost (map f (disksOf t)) i)
+        let k : length (map f (diskRows t)) ≤ disksMost = omega (arith, length-map (diskRows t) f, count-disks, w .few) in
+        ext-getD 0 xs _ (l ∙ sym (pad-length 0 disksMost (map f (diskRows t)) k)) λ i m.
+        h i (omega (arith, l)) ∙ sym (column-at i) ∙ sym (pad-at 0 disksMost (map f (diskRows t)) i)
 
 -- ---- row by row
 
@@ -100,7 +100,7 @@ upto-step {rows} {costs} {starts} {i} r l e w = record {
       (w .start);
 }
 
-pub upto-done : {t : Table} {cs ss : List ℕ} {i : ℕ} → Filled t → disksMost ≤ i → UpTo (t .rows) cs ss i → Columns t cs ss
+pub upto-done : {t : Table} {cs ss : List ℕ} {i : ℕ} → Proper t → disksMost ≤ i → UpTo (t .rows) cs ss i → Columns t cs ss
 unfolding startOf costs
 upto-done {t} {cs} {ss} {i} f l w = record {
   costs-held = column-whole f (λ r. r .cost) refl cs (w .costs-long) (λ k m. w .cost k (omega arith));

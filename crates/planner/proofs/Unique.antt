@@ -10,6 +10,7 @@ use native.Mathlib.Nat.{pow-suc}
 use lib.ListN.{length}
 use lib.Seq.{ext-getD}
 use Rattle.basics.specs.Limits.{disksMost, blocksMost}
+use Rattle.basics.specs.Padded.{padTo}
 use Rattle.mask.specs.Has.{has}
 use Rattle.mask.proofs.Has.{has-ext}
 use Rattle.model.specs.Case.{Case}
@@ -18,11 +19,11 @@ use Rattle.field.specs.declared.Written.{Written}
 use Rattle.field.specs.Send.{Sent}
 use Rattle.field.specs.Sheet.{Out}
 use Rattle.field.proofs.Sends.{sent-unique}
-use Rattle.request.proofs.Unique.{answer-injective}
+use Rattle.request.proofs.Unique.{told-injective}
 use Rattle.plan.specs.Plan.{Plan}
-use Rattle.planner.specs.declared.Asked.{Asked}
+use Rattle.planner.specs.declared.Spelling.{Spelling}
 use Rattle.planner.specs.Answered.{draftOf, Answered}
-use Rattle.planner.specs.Lists.{padTo, Asks}
+use Rattle.planner.specs.Lists.{Asks}
 use Rattle.planner.proofs.Plans.{plans-unique}
 
 -- a number is below its power of two
@@ -44,26 +45,26 @@ module _ {copies costs starts copies′ costs′ starts′ : List ℕ} (l : leng
         ext-getD 0 starts starts′ (l ∙ n ∙ sym l′) (λ d _. ap (λ (m : Case). m .start d) e),
       )
 
-same-asked : (r r′ : Asked) → r .answer ≡ r′ .answer → r .disks ≡ r′ .disks → r .copies ≡ r′ .copies → r .costs ≡ r′ .costs
+same-asked : (r r′ : Spelling) → r .answer ≡ r′ .answer → r .disks ≡ r′ .disks → r .copies ≡ r′ .copies → r .costs ≡ r′ .costs
     → r .starts ≡ r′ .starts → r ≡ r′
 same-asked r r′ a n c k s =
-    ap {B = Asked} (λ x. record { answer = x; disks = r .disks; copies = r .copies; costs = r .costs; starts = r .starts }) a
-    ∙ ap {B = Asked} (λ x. record { answer = r′ .answer; disks = x; copies = r .copies; costs = r .costs; starts = r .starts }) n
-    ∙ ap {B = Asked} (λ x. record { answer = r′ .answer; disks = r′ .disks; copies = x; costs = r .costs; starts = r .starts }) c
-    ∙ ap {B = Asked} (λ x. record { answer = r′ .answer; disks = r′ .disks; copies = r′ .copies; costs = x; starts = r .starts }) k
-    ∙ ap {B = Asked} (λ x. record { answer = r′ .answer; disks = r′ .disks; copies = r′ .copies; costs = r′ .costs; starts = x }) s
+    ap {B = Spelling} (λ x. record { answer = x; disks = r .disks; copies = r .copies; costs = r .costs; starts = r .starts }) a
+    ∙ ap {B = Spelling} (λ x. record { answer = r′ .answer; disks = x; copies = r .copies; costs = r .costs; starts = r .starts }) n
+    ∙ ap {B = Spelling} (λ x. record { answer = r′ .answer; disks = r′ .disks; copies = x; costs = r .costs; starts = r .starts }) c
+    ∙ ap {B = Spelling} (λ x. record { answer = r′ .answer; disks = r′ .disks; copies = r′ .copies; costs = x; starts = r .starts }) k
+    ∙ ap {B = Spelling} (λ x. record { answer = r′ .answer; disks = r′ .disks; copies = r′ .copies; costs = r′ .costs; starts = x }) s
 
-pub ask-unique : {o : Out Case} {bytes : ℕ} {r r′ : Asked} → Asks o bytes r → Asks o bytes r′ → r ≡ r′
+pub ask-unique : {o : Out Case} {bytes : ℕ} {r r′ : Spelling} → Asks o bytes r → Asks o bytes r′ → r ≡ r′
 ask-unique {o} {bytes} {r} {r′} a b =
     let v = a .lists in
     let w = b .lists in
     let same = spelled-injective (v .starts-long) (w .starts-long) (v .case ∙ sym (w .case)) in
     same-asked r r′
-    (answer-injective bytes (r .answer) (r′ .answer) (a .answer ∙ sym (b .answer)))
+    (told-injective bytes (r .answer) (r′ .answer) (a .answer ∙ sym (b .answer)))
     (v .disks ∙ sym (w .disks))
-    (v .copies-held ∙ ap (padTo blocksMost) (same .0) ∙ sym (w .copies-held))
-    (v .costs-held ∙ ap (padTo disksMost) (same .1) ∙ sym (w .costs-held))
-    (v .starts-held ∙ ap (padTo disksMost) (same .2) ∙ sym (w .starts-held))
+    (v .copies-held ∙ ap (padTo 0 blocksMost) (same .0) ∙ sym (w .copies-held))
+    (v .costs-held ∙ ap (padTo 0 disksMost) (same .1) ∙ sym (w .costs-held))
+    (v .starts-held ∙ ap (padTo 0 disksMost) (same .2) ∙ sym (w .starts-held))
 
 pub plan-into-unique : {number tenancy : ℕ} {o : Out Case} {out : List ℕ} {a b : Written} {x y : List ℕ}
     → Answered number tenancy o out a x → Answered number tenancy o out b y → (a ≡ b) × (x ≡ y)

@@ -1,5 +1,5 @@
 -- From what a unit holds (its number, its tenancy, its table) and a request sheet to the case, or the refusal; and what its plan is.
---     startOf, caseOf     when a disk of the table starts; the case that a table and the copies of a request spell
+--     startOf, tableCase     when a disk of the table starts; the case that a table and the copies of a request spell
 --     asked               the case that a unit and a request sheet spell, or the refusal
 --     Plannable           a case within the limits of document 01
 --     PlanFor, Plans      a plan sheet's values are the plan of a case; the plan of what was asked, or the refusal
@@ -16,7 +16,7 @@ use Rattle.engine.specs.Spelled.{spelled}
 use Rattle.field.specs.Sheet.{Out, got, refused}
 use Rattle.settings.specs.declared.Row.{Row}
 use Rattle.settings.specs.declared.Table.{Table}
-use Rattle.settings.specs.Table.{disksOf, costs}
+use Rattle.settings.specs.Table.{diskRows, costs}
 use Rattle.request.specs.Request.{requestSheet}
 use Rattle.plan.specs.Plan.{Plan}
 use Rattle.plan.specs.Range.{InRange}
@@ -26,11 +26,11 @@ unfoldable pub startOf : Row → ℕ
 startOf r = starting (r .delay) (r .load)
 
 -- the disks of a table with their costs and starts, and the blocks of a request with their copies, bit d standing for disk d
-unfoldable pub caseOf : Table → List ℕ → Case
-caseOf t copies = spelled copies (costs t) (map startOf (disksOf t))
+unfoldable pub tableCase : Table → List ℕ → Case
+tableCase t copies = spelled copies (costs t) (map startOf (diskRows t))
 
 unfoldable pub caseIn : Table → Out (List ℕ) → Out Case
-caseIn t (got copies e) = got (caseOf t copies) e
+caseIn t (got copies e) = got (tableCase t copies) e
 caseIn t (refused n) = refused n
 
 -- the sheet is read for the unit of this number, its tenancy (0: not rented) and its N (0: no settings yet)

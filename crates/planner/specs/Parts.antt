@@ -7,34 +7,34 @@ use Prim.Native.Nat.{ℕ, _≤_}
 use mathlib.Core.Path.{_≡_}
 use mathlib.Core.List.{List, map}
 use lib.ListN.{length, take}
+use Rattle.basics.specs.Padded.{padTo}
 use Rattle.basics.specs.Limits.{disksMost}
 use Rattle.model.specs.Case.{Case}
-use Rattle.engine.specs.declared.Answer.{Answer}
+use Rattle.engine.specs.declared.Found.{Found}
 use Rattle.engine.specs.Spelled.{spelled}
 use Rattle.field.specs.declared.Written.{Written}
 use Rattle.field.specs.Send.{Sent}
 use Rattle.settings.specs.declared.Table.{Table}
-use Rattle.settings.specs.Table.{disksOf, costs}
+use Rattle.settings.specs.Table.{diskRows, costs}
 use Rattle.plan.specs.Draft.{planDraft}
 use Rattle.plan.specs.Plan.{Plan}
-use Rattle.planner.specs.declared.Asked.{Asked}
+use Rattle.planner.specs.declared.Spelling.{Spelling}
 use Rattle.planner.specs.Asked.{startOf, Plannable, PlanFor}
-use Rattle.planner.specs.Lists.{padTo}
 
 pub record Columns (t : Table) (costs′ starts′ : List ℕ) : Type 0 where
-  pub costs-held : costs′ ≡ padTo disksMost (costs t)
-  pub starts-held : starts′ ≡ padTo disksMost (map startOf (disksOf t))
+  pub costs-held : costs′ ≡ padTo 0 disksMost (costs t)
+  pub starts-held : starts′ ≡ padTo 0 disksMost (map startOf (diskRows t))
 
 pub record Solvable (copies costs starts : List ℕ) : Type 0 where
   pub starts-long : length starts ≡ length costs
   pub plannable : Plannable (spelled copies costs starts)
 
-abbrev pub Lent : Asked → ℕ → Type 0
+abbrev pub Lent : Spelling → ℕ → Type 0
 Lent r q =
     (q ≤ length (r .copies)) × (r .disks ≤ length (r .costs)) × (r .disks ≤ length (r .starts))
     × Solvable (take q (r .copies)) (take (r .disks) (r .costs)) (take (r .disks) (r .starts))
 
-abbrev pub caseLent : Asked → ℕ → Case
+abbrev pub caseLent : Spelling → ℕ → Case
 caseLent r q = spelled (take q (r .copies)) (take (r .disks) (r .costs)) (take (r .disks) (r .starts))
 
 pub record Solved (number tenancy : ℕ) (m : Case) (out : List ℕ) (w : Written) (after : List ℕ) : Type 0 where
@@ -42,5 +42,5 @@ pub record Solved (number tenancy : ℕ) (m : Case) (out : List ℕ) (w : Writte
   pub is : PlanFor m plan
   pub sent : Sent (planDraft number tenancy plan) out w after
 
-unfoldable pub cutTo : ℕ → List ℕ → List ℕ → Answer → Plan
+unfoldable pub cutTo : ℕ → List ℕ → List ℕ → Found → Plan
 cutTo q disks short r = record { time = r .time; disks = take q disks; short = take (r .size) short }

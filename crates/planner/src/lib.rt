@@ -12,14 +12,14 @@ ghost use Rattle.basics.specs.Limits.{disksMost};
 ghost use Rattle.engine.specs.Spelled.{spelled};
 ghost use Rattle.field.specs.Send.{Sent};
 ghost use Rattle.plan.specs.Draft.{planDraft};
-ghost use Rattle.settings.specs.Table.{Filled};
+ghost use Rattle.settings.specs.Table.{Proper};
 ghost use Rattle.planner.specs.Asked.{asked};
 ghost use Rattle.planner.specs.Lists.{Asks};
 ghost use Rattle.planner.specs.Answered.{Answered};
 ghost use Rattle.planner.specs.Parts.{Columns, Lent, caseLent, Solvable, Solved, cutTo};
 
 // What was asked: Q or the refusal; N, the copies of each block, the cost and the start of each disk. All else is 0, and on refusal all is.
-pub struct Asked {
+pub struct Spelling {
     pub answer: Answer,
     pub disks: usize,
     pub copies: Masks,
@@ -28,8 +28,8 @@ pub struct Asked {
 }
 
 // The case that what a unit holds and a request sheet spell, as lists.
-pub fn ask(number: u32, tenancy: u32, table: Table, sheet: &[u8]) -> Asked
-    requires { ⌜ Filled table ⌝ }
+pub fn ask(number: u32, tenancy: u32, table: Table, sheet: &[u8]) -> Spelling
+    requires { ⌜ Proper table ⌝ }
     ensures { λ r. ⌜ Asks (asked number tenancy table (now (sheet .entry))) (length (now (sheet .entry))) r ⌝ }
 {
     let said = request::read(sheet, number, tenancy, table.disks);
@@ -40,7 +40,7 @@ pub fn ask(number: u32, tenancy: u32, table: Table, sheet: &[u8]) -> Asked
     match answer {
         Answer::Accepted(q) => {
             columns(table, &mut costs, &mut starts);
-            Asked {
+            Spelling {
                 answer: Answer::Accepted(q),
                 disks: table.disks as usize,
                 copies,
@@ -48,7 +48,7 @@ pub fn ask(number: u32, tenancy: u32, table: Table, sheet: &[u8]) -> Asked
                 starts,
             }
         }
-        Answer::Refused(e) => Asked {
+        Answer::Refused(e) => Spelling {
             answer: Answer::Refused(e),
             disks: 0,
             copies,
@@ -60,7 +60,7 @@ pub fn ask(number: u32, tenancy: u32, table: Table, sheet: &[u8]) -> Asked
 
 // Answers a read request with the sheet of its plan, at the start of a lent buffer.
 pub fn plan_into(number: u32, tenancy: u32, table: Table, sheet: &[u8], out: &mut [u8]) -> Written
-    requires { ⌜ Filled table ⌝ }
+    requires { ⌜ Proper table ⌝ }
     ensures { λ r. ⌜ Answered number tenancy (asked number tenancy table (now (sheet .entry))) (now (out .entry)) r (now (out .exit)) ⌝ }
 {
     let said = ask(number, tenancy, table, sheet);
@@ -72,7 +72,7 @@ pub fn plan_into(number: u32, tenancy: u32, table: Table, sheet: &[u8], out: &mu
 }
 
 // The sheet of the plan of what was asked, of Q blocks.
-fn lend(number: u32, tenancy: u32, said: Asked, q: usize, out: &mut [u8]) -> Written
+fn lend(number: u32, tenancy: u32, said: Spelling, q: usize, out: &mut [u8]) -> Written
     requires { ⌜ Lent said q ⌝ }
     ensures { λ r. ⌜ Solved number tenancy (caseLent said q) (now (out .entry)) r (now (out .exit)) ⌝ }
 {
@@ -113,7 +113,7 @@ fn solve(
 fn send(
     number: u32,
     tenancy: u32,
-    found: engine::Answer,
+    found: engine::Found,
     q: usize,
     disks: &[u8],
     short: &[u16],
@@ -129,7 +129,7 @@ fn send(
 
 // The cost and the start of each disk.
 fn columns(table: Table, costs: &mut [u32; DISKS], starts: &mut [u32; DISKS])
-    requires { ⌜ Filled table × (length (now costs) ≡ disksMost) × (length (now starts) ≡ disksMost) ⌝ }
+    requires { ⌜ Proper table × (length (now costs) ≡ disksMost) × (length (now starts) ≡ disksMost) ⌝ }
     ensures { λ _. ⌜ Columns table (now (costs .exit)) (now (starts .exit)) ⌝ }
 {
     let rows = table.rows;

@@ -4,16 +4,18 @@
 --     accepted-at                                the same of one block
 --     refused-sheet                              what a refusal says of the sheet
 use mathlib.Core.Path.{_≡_, sym, ap, _∙_, subst}
-use mathlib.Core.List.{List, _++_}
+use mathlib.Core.List.{List}
 use Prim.Native.Nat.{ℕ, _+_, _-_, _^_, _≤_, _<_}
 use native.Mathlib.Omega.{arith}
 use borrow.Author.Tests.{ltb-true, ltb-false}
 use lib.Dec.{ltb}
 use lib.ListN.{length, take, drop, getD, replicate}
-use lib.Seq.{take-at, drop-at, getD-take}
+use lib.Seq.{getD-take}
 use Rattle.basics.proofs.Tests.{by-cases}
 use Rattle.mask.specs.Count.{members}
-use Rattle.mask.proofs.Members.{members-zero}
+use Rattle.mask.specs.Has.{has}
+use Rattle.mask.proofs.Has.{has-zero}
+use Rattle.basics.proofs.Count.{count-none}
 use Rattle.field.specs.declared.Refusal.{Refusal}
 use Rattle.field.specs.Refusal.{numberOf}
 use Rattle.field.specs.Sheet.{Out, got, refused}
@@ -24,11 +26,13 @@ use Rattle.request.specs.declared.Answer.the-variants.{Accepted, Refused
 use Rattle.request.specs.declared.Request.{Request}
 use Rattle.request.specs.Disks.{maskOf, disksOf}
 use Rattle.request.specs.Request.{lastDisk, block, requestSheet}
-use Rattle.request.specs.Told.{toldAnswer, counted, padded, Answered}
+use Rattle.request.specs.Told.{toldAnswer, counted, copiesOf, Told}
 use Rattle.request.proofs.Disks.{disks-mask, mask-under}
 use Rattle.request.proofs.Writing.{disks-count, Sendable}
 use Rattle.request.proofs.Reading.{last-under, last-few, last-all, Listed, block-got, Whole, sheet-got}
 use Rattle.basics.specs.Limits.{disksMost, blocksMost, copiesMost}
+use Rattle.basics.specs.Padded.{padTo}
+use Rattle.basics.proofs.Padded.{pad-front, pad-rest}
 
 -- ---- whatever the bytes
 
@@ -52,7 +56,7 @@ sendable n known within k ds r e some few =
     let same : disksOf (maskOf ds) ≡ ds = disks-mask (lastDisk n) ds (last-under n) r in
     let count : members disksMost (maskOf ds) ≡ k = sym (count-of (maskOf ds)) ∙ ap length same ∙ e in
     record {
-      some = λ z. some (sym count ∙ ap (members disksMost) z ∙ members-zero disksMost);
+      some = λ z. some (sym count ∙ ap (members disksMost) z ∙ count-none disksMost (has 0) (λ d _. has-zero d));
       few = omega (arith, count);
       under = subst (λ (j : ℕ). maskOf ds < 2 ^ j) (last-of n known within)
           (omega (arith, mask-under 0 (lastDisk n) 0 ds r (omega arith) (omega arith)));
@@ -97,14 +101,14 @@ unfolding counted
 counted-refused (got ms e) n h = absurd (let z : _≡_ {A = ℕ} 0 1 = cc in omega arith)
 counted-refused (refused m) n h = cc
 
-pub accepted : (unit t n : ℕ) (s : List ℕ) (q : ℕ) (r : Request) → n ≤ disksMost → Answered (length s) (requestSheet unit t n s 0) r
+pub accepted : (unit t n : ℕ) (s : List ℕ) (q : ℕ) (r : Request) → n ≤ disksMost → Told (length s) (requestSheet unit t n s 0) r
     → r .answer ≡ Accepted q → Accepts unit t n s q (r .copies)
-unfolding toldAnswer padded
+unfolding toldAnswer copiesOf
 accepted unit t n s q r l a h =
     let w : (ms : List ℕ) × (requestSheet unit t n s 0 ≡ got ms (length s))
     × (length ms ≡ q) = counted-got (requestSheet unit t n s 0) (length s) q (sym (ap (toldAnswer (length s)) h) ∙ a .told) in
-    let c : r .copies ≡ w .0 ++ replicate (blocksMost - length (w .0)) 0 = a .held ∙ ap padded (w .1) in
-    let front : take q (r .copies) ≡ w .0 = ap (take q) c ∙ take-at (w .0) (replicate (blocksMost - length (w .0)) 0) q (w .2) in
+    let c : r .copies ≡ padTo 0 blocksMost (w .0) = a .held ∙ ap copiesOf (w .1) in
+    let front : take q (r .copies) ≡ w .0 = ap (take q) c ∙ pad-front 0 blocksMost (w .0) q (w .2) in
     let b : (0 < n) × (length (w .0) ≤ blocksMost) × All (Sendable n) (w .0) = sheet-blocks unit t n s (w .0) (length s) l (w .1) in
     record {
       sheet = w .1 ∙ ap (λ (x : List ℕ). got x (length s)) (sym front);
@@ -112,8 +116,7 @@ accepted unit t n s q r l a h =
       small = omega (arith, b .1, w .2);
       count = ap length front ∙ w .2;
       blocks = subst (All (Sendable n)) (sym front) (b .2);
-      beyond = ap (drop q) c ∙ drop-at (w .0) (replicate (blocksMost - length (w .0)) 0) q (w .2)
-          ∙ ap (λ (k : ℕ). replicate (blocksMost - k) 0) (w .2);
+      beyond = ap (drop q) c ∙ pad-rest 0 blocksMost (w .0) q (w .2);
     }
 
 -- each block has copies, at most eight, all below N
@@ -122,7 +125,7 @@ pub accepted-at : {unit t n : ℕ} {s : List ℕ} {q : ℕ} {copies : List ℕ} 
 accepted-at {unit} {t} {n} {s} {q} {copies} a i l =
     subst (Sendable n) (getD-take q copies i 0 l) (all-at (Sendable n) (take q copies) (a .blocks) i 0 (omega (arith, a .count)))
 
-pub refused-sheet : (len : ℕ) (o : Out (List ℕ)) (r : Request) (e : Refusal) → Answered len o r → r .answer ≡ Refused e
+pub refused-sheet : (len : ℕ) (o : Out (List ℕ)) (r : Request) (e : Refusal) → Told len o r → r .answer ≡ Refused e
     → o ≡ refused (numberOf e)
 unfolding toldAnswer
 refused-sheet len o r e a h = counted-refused o (numberOf e) (sym (ap (toldAnswer len) h) ∙ a .told)

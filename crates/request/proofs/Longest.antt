@@ -12,7 +12,8 @@ use Rattle.number.proofs.Encode.{width-top, width-bounds}
 use Rattle.basics.specs.Choice.{pick}
 use Rattle.basics.specs.Lists.{All}
 use Rattle.mask.specs.Has.{has}
-use Rattle.mask.specs.Count.{bit, members}
+use Rattle.mask.specs.Count.{members}
+use Rattle.basics.specs.Count.{bit, sum, count}
 use Rattle.field.specs.Put.{spellAll}
 use Rattle.field.specs.Sheet.{got}
 use Rattle.field.specs.Send.{sheet}
@@ -44,7 +45,7 @@ longest-read unit t n s ms e b l h = longest-written unit t n ms s (write-accept
 
 -- disks 0 to 7
 eight : members disksMost 255 ≡ copiesMost
-unfolding members bit has
+unfolding count sum bit has
 eight = refl
 
 full-blocks : (q : ℕ) → All (Sendable disksMost) (replicate q 255)

@@ -9,12 +9,12 @@
 --     Listed, Headed, Whole, block-got, heading-got, sheet-got     what an accepted block, heading or sheet says of each part
 use mathlib.Core.Path.{_≡_, refl, sym, ap, _∙_, subst, subst⁻¹}
 use mathlib.Core.Bool.{true, not, _||_, true≢false}
-use mathlib.Core.List.{List, [], _∷_, _++_}
+use mathlib.Core.List.{List, [], _∷_}
 use Prim.Native.Nat.{ℕ, suc, _+_, _-_, _^_, _≤_, _<_}
 use native.Mathlib.Omega.{arith}
 use borrow.Author.Tests.{eq-eqb, ne-eqb, lt-ltb, le-ltb, le-leb, lt-leb, leb-true, ltb-true}
 use lib.Dec.{eqb, leb, ltb, lit<}
-use lib.ListN.{length, replicate, take, drop, set, length-set, length-replicate, take-append-drop, getD}
+use lib.ListN.{length, replicate, take, drop, set, length-set, length-replicate, getD}
 use lib.Seq.{length-take-le, take-suc-set, drop-set-lt, drop-drop}
 use Rattle.basics.proofs.Choice.{pick-true, pick-false, pick-elim}
 use Rattle.field.specs.declared.Refusal.{Refusal}
@@ -32,8 +32,9 @@ use Rattle.request.specs.declared.Request.{Request}
 use Rattle.request.specs.Disks.{maskOf}
 use Rattle.request.specs.Request.{lastDisk, block, heading, requestSheet}
 use Rattle.request.specs.Parts.{toldCopies, masked, Beyond}
-use Rattle.request.specs.Told.{toldAnswer, counted, padded, Answered}
+use Rattle.request.specs.Told.{toldAnswer, counted, copiesOf, Told}
 use Rattle.basics.specs.Limits.{disksMost, blocksMost, copiesMost}
+use Rattle.basics.proofs.Padded.{pad-whole}
 use Rattle.mask.specs.Has.{has}
 use Rattle.field.proofs.Readers.{between-got, between-above, between-under, between-stops}
 use Rattle.field.proofs.OneByte.{number-ends, number-byte, number-above}
@@ -292,8 +293,8 @@ module _ (q high : ℕ) (s : List ℕ) (at : ℕ) where
     filling-extra l h = next (times q (block high)) _ s at (all-read l) ∙ halts end _ s p h
 
     pub filling-done : {v e : ℕ} (r : Request) → r .answer ≡ Accepted q → r .copies ≡ copies → q ≤ i → q ≤ blocksMost → end s p ≡ got v e
-        → Answered (length s) (whole (times q (block high)) s at) r
-    unfolding whole pure toldAnswer counted padded
+        → Told (length s) (whole (times q (block high)) s at) r
+    unfolding whole pure toldAnswer counted copiesOf
     filling-done {v} {e} r a b l small h =
         let n : length (take q copies) ≡ q = length-take-le q copies (omega (arith, f .long)) in
         let o : whole (times q (block high)) s at ≡ got (take q copies) e =
@@ -302,17 +303,15 @@ module _ (q high : ℕ) (s : List ℕ) (at : ℕ) where
         record {
           told = ap (toldAnswer (length s)) a ∙ ap (got q) (sym (end-place s p v e h))
               ∙ ap (λ (k : ℕ). got k e) (sym n) ∙ sym (ap counted o);
-          held = b ∙ sym (take-append-drop q copies)
-              ∙ ap (λ (x : List ℕ). take q copies ++ x) (ap (λ (k : ℕ). drop k copies) (sym i≡q) ∙ f .rest
-              ∙ ap (λ (k : ℕ). replicate (blocksMost - k) 0) (i≡q ∙ sym n))
-              ∙ sym (ap padded o);
+          held = b ∙ pad-whole 0 blocksMost copies q n (subst (λ (k : ℕ). drop k copies ≡ replicate (blocksMost - k) 0) i≡q (f .rest))
+              ∙ sym (ap copiesOf o);
         }
 
 -- ---- the whole sheet
 
 -- what is told of a refusal is told of a sheet that is refused so
-pub answered-of : {len n : ℕ} {o : Out (List ℕ)} {r : Request} → o ≡ refused n → Answered len (refused n) r → Answered len o r
-answered-of {len} {n} {o} {r} h a = subst (λ (x : Out (List ℕ)). Answered len x r) (sym h) a
+pub answered-of : {len n : ℕ} {o : Out (List ℕ)} {r : Request} → o ≡ refused n → Told len (refused n) r → Told len o r
+answered-of {len} {n} {o} {r} h a = subst (λ (x : Out (List ℕ)). Told len x r) (sym h) a
 
 module _ (unit t n : ℕ) (s : List ℕ) where
   pub sheet-next : {q e : ℕ} → heading unit t n s 0 ≡ got q e → requestSheet unit t n s 0 ≡ whole (times q (block (lastDisk n))) s e
@@ -325,9 +324,9 @@ module _ (unit t n : ℕ) (s : List ℕ) where
 
 -- the blocks of a sheet whose heading was accepted
 pub answered-sheet : (unit t n : ℕ) (s : List ℕ) {q e high : ℕ} {r : Request} → heading unit t n s 0 ≡ got q e → high ≡ lastDisk n
-    → Answered (length s) (whole (times q (block high)) s e) r → Answered (length s) (requestSheet unit t n s 0) r
+    → Told (length s) (whole (times q (block high)) s e) r → Told (length s) (requestSheet unit t n s 0) r
 answered-sheet unit t n s {q} {e} {high} {r} h l a =
-    subst (λ (x : Out (List ℕ)). Answered (length s) x r) (ap (λ (k : ℕ). whole (times q (block k)) s e) l
+    subst (λ (x : Out (List ℕ)). Told (length s) x r) (ap (λ (k : ℕ). whole (times q (block k)) s e) l
     ∙ sym (sheet-next unit t n s h)) a
 
 -- what an accepted sheet says of its two parts

@@ -12,23 +12,23 @@ use Rattle.request.specs.declared.Answer.the-variants.{Accepted, Refused
 use Rattle.request.specs.declared.Request.{Request}
 use Rattle.request.specs.Draft.{requestDraft}
 use Rattle.request.specs.Request.{requestSheet}
-use Rattle.request.specs.Told.{toldAnswer, Answered}
+use Rattle.request.specs.Told.{toldAnswer, Told}
 
 -- two answers that say the same are the same
-pub answer-injective : (len : ℕ) (a b : Answer) → toldAnswer len a ≡ toldAnswer len b → a ≡ b
+pub told-injective : (len : ℕ) (a b : Answer) → toldAnswer len a ≡ toldAnswer len b → a ≡ b
 unfolding toldAnswer
-answer-injective len (Accepted q) (Accepted p) h = cc
-answer-injective len (Accepted q) (Refused e) h = cc
-answer-injective len (Refused r) (Accepted p) h = cc
-answer-injective len (Refused r) (Refused e) h = let n : numberOf r ≡ numberOf e = cc in ap Refused (number-injective r e n)
+told-injective len (Accepted q) (Accepted p) h = cc
+told-injective len (Accepted q) (Refused e) h = cc
+told-injective len (Refused r) (Accepted p) h = cc
+told-injective len (Refused r) (Refused e) h = let n : numberOf r ≡ numberOf e = cc in ap Refused (number-injective r e n)
 
 same-request : (r r′ : Request) → r .answer ≡ r′ .answer → r .copies ≡ r′ .copies → r ≡ r′
 same-request r r′ a c = let made : Answer → List ℕ → Request = λ x y. record { answer = x; copies = y } in ap₂ made a c
 
 -- `read`: the answer and the copies
-pub read-unique : (unit t n : ℕ) (s : List ℕ) (len : ℕ) (r r′ : Request) → Answered len (requestSheet unit t n s 0) r
-    → Answered len (requestSheet unit t n s 0) r′ → r ≡ r′
-read-unique unit t n s len r r′ p q = same-request r r′ (answer-injective len (r .answer) (r′ .answer) (p .told ∙ sym (q .told)))
+pub read-unique : (unit t n : ℕ) (s : List ℕ) (len : ℕ) (r r′ : Request) → Told len (requestSheet unit t n s 0) r
+    → Told len (requestSheet unit t n s 0) r′ → r ≡ r′
+read-unique unit t n s len r r′ p q = same-request r r′ (told-injective len (r .answer) (r′ .answer) (p .told ∙ sym (q .told)))
     (p .held ∙ sym (q .held))
 
 -- `write`: the answer and the buffer

@@ -26,8 +26,9 @@ use Rattle.basics.proofs.Tests.{by-cases}
 use Rattle.number.proofs.Encode.{width-one}
 use Rattle.mask.specs.Has.{has}
 use Rattle.mask.specs.Lowest.{Lowest}
-use Rattle.mask.specs.Count.{bit, members}
-use Rattle.mask.proofs.Members.{members-le}
+use Rattle.mask.specs.Count.{members}
+use Rattle.basics.specs.Count.{bit, sum, count}
+use Rattle.basics.proofs.Count.{count-most}
 use Rattle.field.specs.Put.{spellAll, PutOne, Laid, openingBytes}
 use Rattle.field.proofs.Puts.{laid-none, laid-length, laid-join, put-one}
 use Rattle.field.proofs.Spell.{spell-append, spell-more}
@@ -67,7 +68,7 @@ module _ (m : ℕ) where
 
   -- each disk below 128 is one byte
   pub disks-length : (n : ℕ) → n ≤ 128 → length (spellAll encode (disksBelow n m)) ≡ members n m
-  unfolding members bit disksBelow spellAll widthOf
+  unfolding count sum bit disksBelow spellAll widthOf
   disks-length zero h = refl
   disks-length (suc d) h =
       by-cases (has m d)
@@ -82,7 +83,7 @@ module _ (m : ℕ) where
       (λ f. omega (arith, ap length (disks-out d f), disks-length d (omega arith), ap bit f))
 
   pub disks-count : (n : ℕ) → length (disksBelow n m) ≡ members n m
-  unfolding members bit disksBelow
+  unfolding count sum bit disksBelow
   disks-count zero = refl
   disks-count (suc d) =
       by-cases (has m d)
@@ -109,14 +110,14 @@ module _ (m : ℕ) where
       omega (
         arith,
         length-append (encode (length (disksBelow disksMost m))) (spellAll encode (disksBelow disksMost m)),
-        width-one (length (disksBelow disksMost m)) (omega (arith, disks-count disksMost, members-le disksMost m)),
+        width-one (length (disksBelow disksMost m)) (omega (arith, disks-count disksMost, count-most disksMost (has m))),
         disks-length disksMost (omega arith),
       )
 
   module _ {out : List ℕ} {at k p : ℕ} {mid : List ℕ} (e : k ≡ members disksMost m) (h : at + length (blockBytes m) ≤ length out)
       (f : PutOne k out at p mid) where
     count-put : Laid out at (encode k) mid p
-    count-put = put-one f (omega (arith, block-length, width-one k (omega (arith, e, members-le disksMost m))))
+    count-put = put-one f (omega (arith, block-length, width-one k (omega (arith, e, count-most disksMost (has m)))))
 
     -- behind the copy count there is room for the disks
     pub block-room : p + length (spellAll encode (disksOf m)) ≤ length mid
@@ -127,7 +128,7 @@ module _ (m : ℕ) where
       block-length,
       count-put .place,
       laid-length count-put,
-      width-one k (omega (arith, e, members-le disksMost m)),
+      width-one k (omega (arith, e, count-most disksMost (has m))),
       disks-length disksMost (omega arith),
     )
 

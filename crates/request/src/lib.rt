@@ -7,7 +7,7 @@ use field::Field;
 use field::Refusal;
 use field::Written;
 ghost use mathlib.Core.Path.{_≡_};
-ghost use Prim.Native.Nat.{ℕ, _+_, _^_, _≤_, _<_};
+ghost use Prim.Native.Nat.{ℕ, _+_, _≤_, _<_};
 ghost use lib.ListN.{length, getD};
 ghost use Rattle.basics.specs.Limits.{disksMost, blocksMost};
 ghost use Rattle.number.specs.Encode.{encode};
@@ -21,7 +21,7 @@ ghost use Rattle.request.specs.Disks.{disksOf};
 ghost use Rattle.request.specs.Draft.{blockBytes, headingBytes, requestBytes, requestDraft};
 ghost use Rattle.request.specs.Parts.{toldCopies, masked, Beyond, Counted, Sized};
 ghost use Rattle.request.specs.Request.{lastDisk, block, heading as headingOf, requestSheet};
-ghost use Rattle.request.specs.Told.{Answered};
+ghost use Rattle.request.specs.Told.{Told};
 
 // What a reader of requests answers: the block count Q, or the refusal.
 pub enum Answer {
@@ -122,7 +122,7 @@ fn one_block(s: &[u8], at: usize, high: u32) -> Copies
 
 // A refusal, with all copies 0.
 fn refuse(e: Refusal) -> Request
-    ensures { λ r. ⌜ ((len : ℕ) → Answered len (refused (numberOf e)) r) ⌝ }
+    ensures { λ r. ⌜ ((len : ℕ) → Told len (refused (numberOf e)) r) ⌝ }
 {
     let copies = [0u64; BLOCKS];
     Request {
@@ -134,7 +134,7 @@ fn refuse(e: Refusal) -> Request
 // The blocks from a place on, and the end of the sheet.
 fn blocks(s: &[u8], at: usize, q: usize, high: u32) -> Request
     requires { ⌜ (q ≤ blocksMost) × (high < disksMost) ⌝ }
-    ensures { λ r. ⌜ Answered (length (now (s .entry))) (whole (times q (block high)) (now (s .entry)) at) r ⌝ }
+    ensures { λ r. ⌜ Told (length (now (s .entry))) (whole (times q (block high)) (now (s .entry)) at) r ⌝ }
 {
     let mut copies = [0u64; BLOCKS];
     let mut p = at;
@@ -176,7 +176,7 @@ fn heading(s: &[u8], unit: u32, tenancy: u32, disks: u32) -> Field
 
 // Reads a request for a unit, its tenancy (0: not rented) and its N (0: no settings yet).
 pub fn read(s: &[u8], unit: u32, tenancy: u32, disks: u32) -> Request
-    ensures { λ r. ⌜ Answered (length (now (s .entry))) (requestSheet unit tenancy disks (now (s .entry)) 0) r ⌝ }
+    ensures { λ r. ⌜ Told (length (now (s .entry))) (requestSheet unit tenancy disks (now (s .entry)) 0) r ⌝ }
 {
     match heading(s, unit, tenancy, disks) {
         Field::Got(q, at) => blocks(s, at, q as usize, last(disks)),

@@ -1,21 +1,20 @@
 -- A stuck block: those that have all copies on the reached disks are as many as those disks can read, and those of them on no disk.
 --     caught-size     their number
---     caught-short    more than those disks can read
 use Prim.Native.Nat.{ℕ, _+_, _<_}
 use mathlib.Core.Path.{_≡_, sym, ap, subst, _∙_}
 use mathlib.Core.Logic.{inr}
 use mathlib.Core.Bool.{Bool, true, _&&_}
 use mathlib.Core.List.{List}
 use native.Mathlib.Omega.{arith}
-use lib.Dec.{eqb, leb}
+use lib.Dec.{eqb}
 use lib.ListN.{getD}
-use borrow.Author.Tests.{eqb-true, ltb-false, le-leb}
+use borrow.Author.Tests.{eqb-true, ltb-false}
 use Rattle.mask.specs.Has.{has}
 use Rattle.basics.specs.Count.{sum, gate}
 use Rattle.model.specs.Assignment.{reads, Partial, Within}
 use Rattle.model.specs.Shortfall.{size}
 use Rattle.basics.proofs.Tests.{by-cases, differ, and-left, and-right, and-both, same-test, not-here}
-use Rattle.basics.proofs.Count.{gate-true, gate-false, sum-ext, count-ext, count-none, count-here}
+use Rattle.basics.proofs.Count.{gate-true, gate-false, sum-ext, count-ext, count-none}
 use Rattle.model.proofs.Duality.{share, left, split}
 use Rattle.places.specs.Places.{entry, holds, roomy, Placed}
 use Rattle.places.specs.Among.{Inside}
@@ -50,16 +49,4 @@ module _ {n q b base : ℕ} {masks seats counts : List ℕ} {x : ℕ} (caps : Li
           arith,
           split n q (entry seats) S,
           sum-ext n (λ d. share q (entry seats) S d) (λ d. gate (has x d) (getD caps d 0)) shares,
-        )
-
-    -- so S is short, since b is one of them
-    pub caught-short : b < q → getD seats b 0 ≡ n → Inside (getD masks b 0) x
-        → sum n (λ d. gate (has x d) (getD caps d 0)) < size q S
-    unfolding left
-    caught-short h o i =
-        omega (
-          arith,
-          caught-size,
-          count-here q (λ j. S j && leb n (getD seats j 0)) b h
-              (and-both (S b) (leb n (getD seats b 0)) (g b h i) (le-leb n (getD seats b 0) (omega (arith, o)))),
         )

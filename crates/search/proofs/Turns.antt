@@ -3,9 +3,9 @@
 --     more-steps     there is room for the note
 --     seeks-way      each of them has a way
 --     seeks-mark     where none of them has room, they are reached
-use Prim.Native.Nat.{ℕ, _+_, _-_, _≤_, _<_, _^_}
+use Prim.Native.Nat.{ℕ, _+_, _≤_, _<_, _^_}
 use mathlib.Core.Path.{_≡_, sym, ap, subst, _∙_}
-use mathlib.Core.Logic.{_⊎_, ⊎-elim}
+use mathlib.Core.Logic.{⊎-elim}
 use mathlib.Core.Bool.{Bool, true, false, not, _&&_, _||_}
 use mathlib.Core.List.{List}
 use native.Mathlib.Omega.{arith}
@@ -18,10 +18,9 @@ use Rattle.basics.specs.Limits.{disksMost}
 use Rattle.mask.specs.Has.{has}
 use Rattle.model.specs.Shortfall.{touches}
 use Rattle.basics.proofs.Tests.{by-cases, differ, and-left, and-right, and-both, or-elim, or-left, or-right, not-here}
-use Rattle.basics.proofs.Count.{any-here}
+use Rattle.basics.proofs.Count.{count-less, count-room, any-here}
 use Rattle.places.specs.Places.{holds}
 use Rattle.places.specs.Among.{Inside}
-use Rattle.places.proofs.Masks.{members-more, members-room}
 use Rattle.search.specs.Search.{Owning}
 use Rattle.search.specs.Parts.{Brought, Notes, Seeks, Way}
 
@@ -50,7 +49,7 @@ module _ {n q b base bound : ℕ} {masks seats : List ℕ} {room : ℕ} {by : Li
   small = omega (arith, turn .disks, turn .low (turn .some .0) (turn .some .1))
 
   pub more-steps : steps ≤ disksMost
-  more-steps = omega (arith, turn .seeks .few, members-room x (turn .some .0) (turn .seeks .fits) small (turn .some .2))
+  more-steps = omega (arith, turn .seeks .few, count-room disksMost (has x) (turn .some .0) small (turn .some .2))
 
   abbrev by′ : List ℕ
   by′ = set by steps y
@@ -164,7 +163,7 @@ module _ {n q b base bound : ℕ} {masks seats : List ℕ} {room : ℕ} {by : Li
           few = omega (
             arith,
             turn .seeks .few,
-            members-more disksMost x x′ (turn .some .0) small up (turn .some .2)
+            count-less disksMost (has x) (has x′) (turn .some .0) small (λ e l. up e) (turn .some .2)
                 (covered (turn .some .0) (turn .some .1)),
           );
           notes = notes-more;

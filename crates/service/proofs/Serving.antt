@@ -18,8 +18,8 @@ use Rattle.field.specs.Refusal.{numberOf}
 use Rattle.field.specs.Send.{toldWritten}
 use Rattle.field.specs.Sheet.{Out, got, refused, pure}
 use Rattle.field.proofs.Sheet.{next, stops}
-use Rattle.unit.specs.declared.Answer.{Answer}
-use Rattle.unit.specs.declared.Answer.the-variants.{Accepted, Refused as Denied}
+use Rattle.field.specs.declared.Verdict as declared
+use Rattle.field.specs.declared.Verdict.the-variants.{Accepted, Refused as Denied}
 use Rattle.unit.specs.declared.Done.{Done}
 use Rattle.unit.specs.declared.Requested.{Requested}
 use Rattle.unit.specs.declared.Unit.{Unit}
@@ -27,7 +27,7 @@ use Rattle.hire.specs.Calls.{asking, said, planned, Does}
 use Rattle.unit.specs.Life.{Verdict, accepted, Outcome, rent, set, giveBack, refused as denied}
 use Rattle.unit.specs.Request.{Replied}
 use Rattle.unit.specs.Sound.{Sound}
-use Rattle.unit.specs.Told.{told, toldAnswer}
+use Rattle.unit.specs.Told.{told, toldVerdict}
 use Rattle.unit.specs.Unit.{newUnit}
 use Rattle.hire.proofs.Runs.{rent-does, set-does, back-does, request-does}
 use Rattle.unit.proofs.Replies.{replied-within}
@@ -51,15 +51,15 @@ use Rattle.service.specs.Parts.{verdictLine, Answers, Plans}
 -- ---- the lines
 
 module _ {out after : List ℕ} {n : ℕ} where
-  pub verdict-taken : (w : Word) (a : Answer) → a ≡ Accepted → Printed (spoken w) out n after
-      → Printed (verdictLine w (toldAnswer a)) out n after
-  unfolding verdictLine toldAnswer
-  verdict-taken w a q p = printed-same (ap (λ (x : Answer). verdictLine w (toldAnswer x)) (sym q)) p
+  pub verdict-taken : (w : Word) (a : declared.Verdict) → a ≡ Accepted → Printed (spoken w) out n after
+      → Printed (verdictLine w (toldVerdict a)) out n after
+  unfolding verdictLine toldVerdict
+  verdict-taken w a q p = printed-same (ap (λ (x : declared.Verdict). verdictLine w (toldVerdict x)) (sym q)) p
 
-  pub verdict-denied : (w : Word) (a : Answer) (e : Refusal) → a ≡ Denied e → Printed (spoken (Refused (numberOf e))) out n after
-      → Printed (verdictLine w (toldAnswer a)) out n after
-  unfolding verdictLine toldAnswer
-  verdict-denied w a e q p = printed-same (ap (λ (x : Answer). verdictLine w (toldAnswer x)) (sym q)) p
+  pub verdict-denied : (w : Word) (a : declared.Verdict) (e : Refusal) → a ≡ Denied e → Printed (spoken (Refused (numberOf e))) out n after
+      → Printed (verdictLine w (toldVerdict a)) out n after
+  unfolding verdictLine toldVerdict
+  verdict-denied w a e q p = printed-same (ap (λ (x : declared.Verdict). verdictLine w (toldVerdict x)) (sym q)) p
 
 -- a call's verdict is printed by its word
 said-line : (a : Asked) (w : Word) (v : Verdict) → acceptedLine a ≡ spoken w → lineOf a (said v) ≡ verdictLine w v
@@ -187,11 +187,11 @@ module _ (sh : Shelf) (s : List ℕ) (ended : Bool) {out after : List ℕ} {t : 
 
   -- a call that is answered with a verdict
   turned-said : (d : Done) (e : ℕ) (a : Asked) (x : Word) → acceptedLine a ≡ spoken x → asked s 0 ≡ got a e → Answers x d e out t after
-      → Does (sh .unit) (callOf a) (said (toldAnswer (d .answer))) (d .unit) → Turned sh s ended (due true s 0) out t after
+      → Does (sh .unit) (callOf a) (said (toldVerdict (d .answer))) (d .unit) → Turned sh s ended (due true s 0) out t after
   unfolding Serves
   turned-said d e a x word h p k =
-      turned-call a e (verdictLine x (toldAnswer (d .answer))) h (p .next) (p .place)
-      (said (toldAnswer (d .answer)), d .unit, k, sym (said-line a x (toldAnswer (d .answer)) word), p .shelf) (p .printed)
+      turned-call a e (verdictLine x (toldVerdict (d .answer))) h (p .next) (p .place)
+      (said (toldVerdict (d .answer)), d .unit, k, sym (said-line a x (toldVerdict (d .answer)) word), p .shelf) (p .printed)
 
 module _ {sh : Shelf} {s : List ℕ} {r : Call} {ended : Bool} (w : Framed s (asked s 0) r) {out after : List ℕ} {t : Turn} where
   module _ (d : Done) (e : ℕ) where

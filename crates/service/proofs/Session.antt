@@ -1,24 +1,32 @@
--- Laws of all the bytes of an input: they may come in any pieces, a turn adds its line, and they have one text.
---     goes-more       bytes that come later change nothing of what was served
---     goes-one        one turn more
---     goes-says       where the input ends, what was printed is what the whole input says
---     says-unique     a whole input has one text
+-- Laws of all the bytes of an input: they have one text, and in whatever pieces they come, that is what is printed.
+--     says-unique, says-exists     a whole input has one text; every input has one
+--     says-more                    where the stream is damaged, bytes that come later change nothing
+--     fed-says, says-fed           what is printed for pieces is what all of them say together, and the other way round
+--     so-far-start .. so-far-says  the loop, turn by turn
 use mathlib.Core.Path.{_≡_, refl, sym, ap, _∙_, subst}
-use mathlib.Core.List.{List, [], _++_, append-assoc, append-nil}
-use Prim.Native.Nat.{ℕ, zero, suc, _≤_}
+use mathlib.Core.Bool.{Bool, true, false, _&&_}
+use mathlib.Core.List.{List, [], _∷_, _++_, flatten, append-assoc, append-nil}
+use Prim.Native.Nat.{ℕ, zero, suc, _+_, _≤_, _<_}
 use native.Mathlib.Omega.{arith}
-use lib.ListN.{length, drop}
+use lib.Dec.{eqb}
+use lib.ListN.{length, drop, length-append, length-drop}
 use lib.Seq.{drop-append-le}
-use Rattle.field.specs.Sheet.{got, refused}
+use Rattle.basics.specs.Choice.{pick}
+use Rattle.basics.proofs.Choice.{pick-true, pick-false}
+use Rattle.basics.proofs.Tests.{by-cases}
+use Rattle.field.specs.Sheet.{Out, got, refused}
 use Rattle.unit.specs.Sound.{Sound}
 use Rattle.unit.proofs.Sound.{sound-new}
-use Rattle.stream.proofs.Steady.{steady-got}
+use Rattle.stream.proofs.Steady.{steady-got, steady-refused}
+use Rattle.service.specs.declared.Next.{Next}
+use Rattle.service.specs.declared.Next.the-variants.{Served, Wants, Done as Last}
 use Rattle.service.specs.declared.Shelf.{Shelf}
-use Rattle.service.specs.Shelf.{Due, due, closed, Serves, lastLine}
-use Rattle.service.specs.Session.{Whole, Goes, Ends, Says, SoFar}
-use Rattle.service.proofs.Turns.{due-steady, serves-unique, serves-sound}
+use Rattle.service.specs.Shelf.{Due, due, closed, Serves, lastLine, waits, Comes}
+use Rattle.service.specs.Session.{Whole, Ends, Says, last, next, Turns, Fed, served, takes, told, stopped, over, SoFar}
+use Rattle.service.proofs.Turns.{due-steady, due-within, due-past, stopped-more, serves-unique, serves-sound, serves-exists}
+use Rattle.service.proofs.Turns.{turns-whole, turns-wants, turns-last}
 
--- ---- in any pieces
+-- ---- bytes that come later
 
 whole-more : {sh : Shelf} {s line : List ℕ} {after : Shelf} {left : List ℕ} (r : List ℕ) → Whole sh s line after left
     → Whole sh (s ++ r) line after (left ++ r)
@@ -33,59 +41,23 @@ whole-more {sh} {s} r w =
       rest = ap (λ (x : List ℕ). x ++ r) (w .rest) ∙ sym (drop-append-le (w .end) s r (m .1));
     }
 
-pub goes-more : (k : ℕ) (sh : Shelf) (s text : List ℕ) (after : Shelf) (left r : List ℕ) → Goes k sh s text after left
-    → Goes k sh (s ++ r) text after (left ++ r)
-unfolding Goes
-goes-more zero sh s text after left r g = (g .0, g .1, ap (λ (x : List ℕ). x ++ r) (g .2))
-goes-more (suc k) sh s text after left r g =
-    (g .0, g .1, g .2, g .3 ++ r, whole-more r (g .4), g .5, goes-more k (g .2) (g .3) (g .1) after left r (g .6))
+ends-more : {sh : Shelf} {s text : List ℕ} (r : List ℕ) (e : Ends sh s text) → (e .why ≡ 1 → ⊥) → Ends sh (s ++ r) text
+ends-more {sh} {s} r e z =
+    record {
+      why = e .why;
+      read = steady-refused (due-steady (sh .opened)) s r (e .read) z;
+      line = e .line ∙ stopped-more (sh .opened) s r (e .why) (e .read) z;
+    }
 
--- ---- one turn more
+-- the number with which the stream stops
+pub why : {sh : Shelf} {s text : List ℕ} → Says sh s text → ℕ
+why (last e) = e .why
+why (next w p) = why p
 
-pub goes-one : (k : ℕ) (sh : Shelf) (s text : List ℕ) (mid : Shelf) (rest line : List ℕ) (after : Shelf) (left : List ℕ)
-    → Goes k sh s text mid rest → Whole mid rest line after left → Goes (suc k) sh s (text ++ line) after left
-unfolding Goes
-goes-one zero sh s text mid rest line after left g w = (
-  line,
-  [],
-  after,
-  left,
-  subst (λ (x : List ℕ). Whole sh x line after left) (g .2) (subst (λ (x : Shelf). Whole x rest line after left) (g .1) w),
-  ap (λ (x : List ℕ). x ++ line) (g .0) ∙ sym (append-nil line),
-  (refl, refl, refl),
-)
-goes-one (suc k) sh s text mid rest line after left g w = (
-  g .0,
-  g .1 ++ line,
-  g .2,
-  g .3,
-  g .4,
-  ap (λ (x : List ℕ). x ++ line) (g .5) ∙ append-assoc (g .0) (g .1) line,
-  goes-one k (g .2) (g .3) (g .1) mid rest line after left (g .6) w,
-)
-
--- ---- the end of the input
-
-pub goes-says : (k : ℕ) {sh : Shelf} {s : List ℕ} (text : List ℕ) {after : Shelf} {left last : List ℕ} → Goes k sh s text after left
-    → Ends after left last → Says sh s (text ++ last)
-goes-says k text {after} {left} {last} g e =
-    record { count = k; lines = text; after = after; left = left; last = last; goes = g; ends = e; all = refl }
-
--- ---- a sound unit stays sound
-
-goes-sound : (k : ℕ) (sh : Shelf) (s text : List ℕ) (after : Shelf) (left : List ℕ) → Sound (sh .unit)
-    → Goes k sh s text after left → Sound (after .unit)
-unfolding Goes
-goes-sound zero sh s text after left h g = subst (λ (x : Shelf). Sound (x .unit)) (sym (g .1)) h
-goes-sound (suc k) sh s text after left h g =
-    goes-sound k (g .2) (g .3) (g .1) after left (serves-sound sh (g .4 .what) (g .0) (g .2) h (g .4 .done)) (g .6)
-
-closed-sound : Sound (closed .unit)
-unfolding closed
-closed-sound = sound-new 0
-
-pub so-far-sound : {sh : Shelf} {left : List ℕ} → SoFar sh left → Sound (sh .unit)
-so-far-sound {sh} {left} w = goes-sound (w .count) closed (w .input) (w .text) sh left closed-sound (w .goes)
+pub says-more : {sh : Shelf} {s text : List ℕ} (r : List ℕ) (w : Says sh s text) → (why w ≡ 1 → ⊥) → Says sh (s ++ r) text
+unfolding why
+says-more r (last e) z = last (ends-more r e z)
+says-more r (next w p) z = next (whole-more r w) (says-more r p z)
 
 -- ---- one text
 
@@ -99,7 +71,7 @@ whole-unique {sh} {s} {x} {y} {a} {b} v w =
     (n .0, n .1, v .rest ∙ ap (λ (z : ℕ). drop z s) e ∙ sym (w .rest))
 
 -- where something whole stands the input has not ended
-no-end : {sh : Shelf} {s line : List ℕ} {after : Shelf} {left last : List ℕ} → Whole sh s line after left → Ends sh s last → ⊥
+no-end : {sh : Shelf} {s line : List ℕ} {after : Shelf} {left text : List ℕ} → Whole sh s line after left → Ends sh s text → ⊥
 no-end w e =
     let h : got (w .what) (w .end) ≡ refused (e .why) = sym (w .read) ∙ e .read in
     let z : _≡_ {A = ℕ} 0 1 = cc in
@@ -111,65 +83,185 @@ ends-unique sh s x y p q =
     let n : p .why ≡ q .why = cc in
     p .line ∙ ap (lastLine (sh .opened) s) n ∙ sym (q .line)
 
-texts : (j k : ℕ) (sh : Shelf) (s x y : List ℕ) (a b : Shelf) (l m f g : List ℕ) → Goes j sh s x a l → Ends a l f
-    → Goes k sh s y b m → Ends b m g
-    → x ++ f ≡ y ++ g
-unfolding Goes
-texts zero zero sh s x y a b l m f g p e q d =
-    let u : Ends sh s f = subst (λ (z : List ℕ). Ends sh z f) (p .2) (subst (λ (z : Shelf). Ends z l f) (p .1) e) in
-    let v : Ends sh s g = subst (λ (z : List ℕ). Ends sh z g) (q .2) (subst (λ (z : Shelf). Ends z m g) (q .1) d) in
-    ap (λ (z : List ℕ). z ++ f) (p .0) ∙ ends-unique sh s f g u v ∙ sym (ap (λ (z : List ℕ). z ++ g) (q .0))
-texts zero (suc k) sh s x y a b l m f g p e q d =
-    absurd (no-end (q .4) (subst (λ (z : List ℕ). Ends sh z f) (p .2) (subst (λ (z : Shelf). Ends z l f) (p .1) e)))
-texts (suc j) zero sh s x y a b l m f g p e q d =
-    absurd (no-end (p .4) (subst (λ (z : List ℕ). Ends sh z g) (q .2) (subst (λ (z : Shelf). Ends z m g) (q .1) d)))
-texts (suc j) (suc k) sh s x y a b l m f g p e q d =
-    let c : (p .0 ≡ q .0) × (p .2 ≡ q .2) × (p .3 ≡ q .3) = whole-unique (p .4) (q .4) in
-    let r : Goes j (q .2) (q .3) (p .1) a l =
-    subst (λ (z : List ℕ). Goes j (q .2) z (p .1) a l) (c .2) (subst (λ (z : Shelf). Goes j z (p .3) (p .1) a l) (c .1) (p .6)) in
-    ap (λ (z : List ℕ). z ++ f) (p .5)
-    ∙ append-assoc (p .0) (p .1) f
-    ∙ ap (λ (z : List ℕ). z ++ (p .1 ++ f)) (c .0)
-    ∙ ap (λ (z : List ℕ). q .0 ++ z) (texts j k (q .2) (q .3) (p .1) (q .1) a b l m f g r e (q .6) d)
-    ∙ sym (append-assoc (q .0) (q .1) g)
-    ∙ sym (ap (λ (z : List ℕ). z ++ g) (q .5))
-
 pub says-unique : (sh : Shelf) (s x y : List ℕ) → Says sh s x → Says sh s y → x ≡ y
-says-unique sh s x y p q =
-    p .all
-    ∙ texts (p .count) (q .count) sh s (p .lines) (q .lines) (p .after) (q .after) (p .left) (q .left) (p .last) (q .last)
-    (p .goes) (p .ends) (q .goes) (q .ends)
-    ∙ sym (q .all)
+says-unique sh s x y (last e) (last f) = ends-unique sh s x y e f
+says-unique sh s x _ (last e) (next w q) = absurd (no-end w e)
+says-unique sh s _ y (next w p) (last f) = absurd (no-end w f)
+says-unique sh s _ _ (next {line = a} {left = k} {text = t} v p) (next {after = m} {line = b} {left = l} {text = u} w q) =
+    let c = whole-unique v w in
+    let r : Says m l t = subst (λ (z : List ℕ). Says m z t) (c .2) (subst (λ (z : Shelf). Says z k t) (c .1) p) in
+    ap (λ (z : List ℕ). z ++ t) (c .0) ∙ ap (λ (z : List ℕ). b ++ z) (says-unique m l t u r q)
 
--- ---- what a turn leaves
+-- ---- in whatever pieces
+
+-- once it was told that the input has ended, no pieces are to come
+none-follow : {sh : Shelf} {s text : List ℕ} {ended : Bool} {pieces : List (List ℕ)} → Fed sh s ended pieces text → ended ≡ true
+    → pieces ≡ []
+none-follow (served t f) q = none-follow f q
+none-follow (takes t f) q = absurd (let z : _≡_ {A = ℕ} 0 1 = cc in omega arith)
+none-follow (told t f) q = refl
+none-follow (stopped t) q = absurd (let z : _≡_ {A = ℕ} 0 1 = cc in omega arith)
+none-follow (over t) q = refl
+
+-- more bytes were wanted: nothing was printed, and the shelf is as it was
+says-wants : {sh after : Shelf} {s line text x : List ℕ} {ended : Bool} {used : ℕ} → Turns sh s ended Wants used line after
+    → Says after x text → Says sh x (line ++ text)
+says-wants {sh} {after} {s} {line} {text} {x} t p =
+    let w = turns-wants t in
+    subst (Says sh x) (sym (ap (λ (z : List ℕ). z ++ text) (w .silent))) (subst (λ (z : Shelf). Says z x text) (w .same) p)
+
+pub fed-says : {sh : Shelf} {s text : List ℕ} {ended : Bool} {pieces : List (List ℕ)} → Fed sh s ended pieces text
+    → Says sh (s ++ flatten pieces) text
+unfolding flatten
+fed-says (served {pieces = ps} t f) = next (whole-more (flatten ps) (turns-whole t)) (fed-says f)
+fed-says (takes {after = m} {s = s} {text = text} {piece = p} {pieces = ps} t f) =
+    says-wants t (subst (λ (z : List ℕ). Says m z text) (append-assoc s p (flatten ps)) (fed-says f))
+fed-says (told t f) = says-wants t (fed-says f)
+fed-says (stopped {pieces = ps} t) = let e = turns-last t in last (ends-more (flatten ps) (e .0) (λ q. e .1 q refl))
+fed-says (over {sh = sh} {s = s} {line = line} t) = last (subst (λ (z : List ℕ). Ends sh z line) (sym (append-nil s)) (turns-last t .0))
+
+-- ---- every input has a text
+
+-- what is still to be done: bytes, pieces, and to be told the end
+size : List ℕ → Bool → List (List ℕ) → ℕ
+size s ended pieces = length s + length (flatten pieces) + length pieces + pick ended 0 1
+
+-- of all that takes fewer than so many steps
+abbrev Every : ℕ → Type 0
+Every k = (sh : Shelf) (s : List ℕ) (ended : Bool) (pieces : List (List ℕ)) → Sound (sh .unit) → (ended ≡ true → pieces ≡ [])
+    → size s ended pieces < k → (text : List ℕ) × Fed sh s ended pieces text
+
+turns-as : (sh : Shelf) (s : List ℕ) (ended : Bool) (n : Next) (used : ℕ) (line : List ℕ) (after : Shelf) {o : Out Due}
+    → due (sh .opened) s 0 ≡ o → Comes sh s ended o n used line after → Turns sh s ended n used line after
+turns-as sh s ended n used line after h c = record { comes = subst (λ (x : Out Due). Comes sh s ended x n used line after) (sym h) c }
+
+waits-ended : (n : ℕ) → waits true n ≡ false
+unfolding waits
+waits-ended n = by-cases (eqb n 1) (λ t. ap (λ (b : Bool). b && false) t) (λ f. ap (λ (b : Bool). b && false) f)
+
+module _ (sh : Shelf) (s : List ℕ) (h : Sound (sh .unit)) where
+  -- nothing whole stands there
+  module _ (ended : Bool) (n : ℕ) (q : due (sh .opened) s 0 ≡ refused n) where
+    wanting : waits ended n ≡ true → Turns sh s ended Wants 0 [] sh
+    unfolding Comes
+    wanting t = turns-as sh s ended Wants 0 [] sh q (sym (pick-true _ _ t), refl, sym (pick-true _ _ t), refl)
+
+    ending : waits ended n ≡ false → Turns sh s ended Last 0 (lastLine (sh .opened) s n) sh
+    unfolding Comes
+    ending f = turns-as sh s ended Last 0 _ sh q (sym (pick-false _ _ f), refl, sym (pick-false _ _ f), refl)
+
+  module _ (k : ℕ) (every : Every k) where
+    on-got : (ended : Bool) (pieces : List (List ℕ)) (d : Due) (e : ℕ) → due (sh .opened) s 0 ≡ got d e → (ended ≡ true → pieces ≡ [])
+        → size s ended pieces < suc k → (text : List ℕ) × Fed sh s ended pieces text
+    unfolding Comes size
+    on-got ended pieces d e q z l =
+        let w = serves-exists sh d h in
+        let f = every (w .1) (drop e s) ended pieces (serves-sound sh d (w .0) (w .1) h (w .2)) z
+        (omega (arith, length-drop e s, due-within (sh .opened) s q, due-past (sh .opened) s q)) in
+        (w .0 ++ f .0, served (turns-as sh s ended Served e (w .0) (w .1) q (refl, refl, w .2)) (f .1))
+
+    on-refused : (ended : Bool) (pieces : List (List ℕ)) (n : ℕ) → due (sh .opened) s 0 ≡ refused n → (ended ≡ true → pieces ≡ [])
+        → size s ended pieces < suc k → (text : List ℕ) × Fed sh s ended pieces text
+    unfolding size flatten pick
+    on-refused true pieces n q z l =
+        subst (λ (ps : List (List ℕ)). (text : List ℕ) × Fed sh s true ps text) (sym (z refl)) (_, over (ending true n q (waits-ended n)))
+    on-refused false [] n q z l =
+        by-cases (waits false n)
+        (λ t. let f = every sh s true [] h (λ _. refl) (omega arith) in (f .0, told (wanting false n q t) (f .1)))
+        (λ f. (_, stopped (ending false n q f)))
+    on-refused false (p ∷ ps) n q z l =
+        by-cases (waits false n)
+        (λ t.
+        let f = every sh (s ++ p) false ps h (λ x. absurd (let y : _≡_ {A = ℕ} 0 1 = cc in omega arith))
+        (omega (arith, length-append s p, length-append p (flatten ps))) in
+        (f .0, takes (wanting false n q t) (f .1)))
+        (λ f. (_, stopped (ending false n q f)))
+
+    on-all : (o : Out Due) → due (sh .opened) s 0 ≡ o → (ended : Bool) (pieces : List (List ℕ)) → (ended ≡ true → pieces ≡ [])
+        → size s ended pieces < suc k → (text : List ℕ) × Fed sh s ended pieces text
+    on-all (got d e) q ended pieces z l = on-got ended pieces d e q z l
+    on-all (refused n) q ended pieces z l = on-refused ended pieces n q z l
+
+every : (k : ℕ) → Every k
+every zero sh s ended pieces h z l = absurd (omega arith)
+every (suc k) sh s ended pieces h z l = on-all sh s h k (every k) (due (sh .opened) s 0) refl ended pieces z l
+
+-- whatever the pieces, the loop comes to an end
+pub fed-exists : (sh : Shelf) (pieces : List (List ℕ)) → Sound (sh .unit) → (text : List ℕ) × Fed sh [] false pieces text
+fed-exists sh pieces h =
+    every (suc (size [] false pieces)) sh [] false pieces h (λ x. absurd (let y : _≡_ {A = ℕ} 0 1 = cc in omega arith)) (omega arith)
+
+pub says-exists : (sh : Shelf) (s : List ℕ) → Sound (sh .unit) → (text : List ℕ) × Says sh s text
+unfolding flatten
+says-exists sh s h =
+    let w = every (suc (size s true [])) sh s true [] h (λ _. refl) (omega arith) in
+    (w .0, subst (λ (x : List ℕ). Says sh x (w .0)) (append-nil s) (fed-says (w .1)))
+
+-- what all the pieces say together is what is printed for them
+pub says-fed : (sh : Shelf) (pieces : List (List ℕ)) (text : List ℕ) → Sound (sh .unit) → Says sh (flatten pieces) text
+    → Fed sh [] false pieces text
+says-fed sh pieces text h p =
+    let w = fed-exists sh pieces h in
+    subst (Fed sh [] false pieces) (says-unique sh (flatten pieces) (w .0) text (fed-says (w .1)) p) (w .1)
+
+-- ---- the loop, turn by turn
+
+pub closed-sound : Sound (closed .unit)
+unfolding closed
+closed-sound = sound-new 0
 
 -- nothing is read yet
-pub so-far-start : SoFar closed []
-unfolding Goes
-so-far-start = record { count = 0; input = []; text = []; goes = (refl, refl, refl) }
+pub so-far-start : SoFar closed [] false
+so-far-start = record { taken = []; text = []; goes-on = λ pieces more f. f }
 
--- more bytes came
-pub so-far-more : {sh : Shelf} {left : List ℕ} (r : List ℕ) → SoFar sh left → SoFar sh (left ++ r)
-so-far-more {sh} {left} r w =
-    record {
-      count = w .count;
-      input = w .input ++ r;
-      text = w .text;
-      goes =
-          goes-more (w .count) closed (w .input) (w .text) sh left r (w .goes);
-    }
+-- with a line more printed
+and-then : (text line more : List ℕ) (pieces : List (List ℕ)) → Fed closed [] false pieces (text ++ (line ++ more))
+    → Fed closed [] false pieces ((text ++ line) ++ more)
+and-then text line more pieces f = subst (Fed closed [] false pieces) (sym (append-assoc text line more)) f
 
--- one turn was served
-pub so-far-served : {sh : Shelf} {s line : List ℕ} {after : Shelf} {left : List ℕ} → SoFar sh s
-    → Whole sh s line after left → SoFar after left
-so-far-served {sh} {s} {line} {after} {left} w t =
+-- a turn was served
+pub so-far-served : {sh : Shelf} {s : List ℕ} {ended : Bool} {used : ℕ} {line : List ℕ} {after : Shelf} → SoFar sh s ended
+    → Turns sh s ended Served used line after → SoFar after (drop used s) ended
+so-far-served {line = line} w t =
     record {
-      count = suc (w .count);
-      input = w .input;
+      taken = w .taken;
       text = w .text ++ line;
-      goes = goes-one (w .count) closed (w .input) (w .text) sh s line after left (w .goes) t;
+      goes-on = λ pieces more f. and-then (w .text) line more (w .taken ++ pieces) (w .goes-on pieces (line ++ more) (served t f));
     }
 
--- nothing follows: what was printed is what the whole input says
-pub so-far-says : {sh : Shelf} {left last : List ℕ} (w : SoFar sh left) → Ends sh left last → Says closed (w .input) (w .text ++ last)
-so-far-says w e = goes-says (w .count) (w .text) (w .goes) e
+module _ {sh : Shelf} {s : List ℕ} {used : ℕ} {line : List ℕ} {after : Shelf} (w : SoFar sh s false)
+    (t : Turns sh s false Wants used line after) where
+  -- more bytes were wanted, and a piece came
+  pub so-far-took : (piece : List ℕ) → SoFar after (s ++ piece) false
+  so-far-took piece =
+      record {
+        taken = w .taken ++ (piece ∷ []);
+        text = w .text ++ line;
+        goes-on = λ pieces more f.
+            and-then (w .text) line more ((w .taken ++ (piece ∷ [])) ++ pieces)
+            (subst (λ (x : List (List ℕ)). Fed closed [] false x (w .text ++ (line ++ more)))
+            (sym (append-assoc (w .taken) (piece ∷ []) pieces))
+            (w .goes-on (piece ∷ pieces) (line ++ more) (takes t f)));
+      }
+
+  -- more bytes were wanted, and the input has ended
+  pub so-far-told : SoFar after s true
+  so-far-told =
+      record {
+        taken = w .taken;
+        text = w .text ++ line;
+        goes-on = λ pieces more f.
+            let none : pieces ≡ [] = none-follow f refl in
+            and-then (w .text) line more (w .taken ++ pieces)
+            (subst (λ (x : List (List ℕ)). Fed closed [] false (w .taken ++ x) (w .text ++ (line ++ more))) (sym none)
+            (w .goes-on [] (line ++ more) (told t (subst (λ (x : List (List ℕ)). Fed after s true x more) none f))));
+      }
+
+-- the last turn: what was printed is what all the pieces say, with any that would have followed had the input not ended
+pub so-far-says : {sh : Shelf} {s : List ℕ} (ended : Bool) {used : ℕ} {line : List ℕ} {after : Shelf} (w : SoFar sh s ended)
+    → Turns sh s ended Last used line after → (pieces : List (List ℕ)) → (ended ≡ true → pieces ≡ [])
+    → Says closed (flatten (w .taken ++ pieces)) (w .text ++ line)
+so-far-says false {line = line} w t pieces z = fed-says (w .goes-on pieces line (stopped t))
+so-far-says true {line = line} w t pieces z =
+    subst (λ (x : List (List ℕ)). Says closed (flatten (w .taken ++ x)) (w .text ++ line)) (sym (z refl))
+    (fed-says (w .goes-on [] line (over t)))

@@ -1,38 +1,43 @@
 -- What a turn comes to, by what it leaves; a sound unit stays sound; and there is no second answer.
---     turned-whole, turned-wants, turned-ends     the turn that is served, that wants more bytes, that is the last
---     due-longest                                 more bytes are wanted only while fewer than the longest call's are there
---     serves-sound                                what is due keeps a sound unit sound
---     turn-unique                                 there is no second answer
+--     due-past, due-longest     what is due uses a byte; more are wanted only while fewer than the longest call's are there
+--     turns-whole, turns-wants, turns-last     the turn that is served, that wants more bytes, that is the last
+--     turned-turns              what `serve` promises is such a turn
+--     serves-exists, serves-sound     what is due can be done, and keeps a sound unit sound
+--     turn-unique               there is no second answer
 use mathlib.Core.Path.{_≡_, refl, sym, ap, _∙_, subst}
 use mathlib.Core.Bool.{Bool, true, false, not}
-use mathlib.Core.List.{List, []}
+use mathlib.Core.List.{List, [], _∷_, _++_}
 use Prim.Native.Nat.{ℕ, _≤_, _<_}
 use native.Mathlib.Omega.{arith}
-use borrow.Author.Tests.{eqb-true}
+use borrow.Author.Tests.{eqb-true, ne-eqb}
 use lib.Dec.{eqb}
 use lib.ListN.{length, drop}
 use Rattle.basics.specs.Choice.{pick}
 use Rattle.basics.proofs.Choice.{pick-true, pick-false}
-use Rattle.basics.proofs.Tests.{by-cases, both}
-use Rattle.field.specs.Field.{number}
+use Rattle.basics.proofs.Tests.{both}
+use Rattle.number.specs.Decode.{decode}
+use Rattle.field.specs.Field.{number, taken}
 use Rattle.field.specs.Sheet.{Out, got, refused, andThen, _>>=_, pure}
 use Rattle.unit.specs.declared.Unit.{Unit}
-use Rattle.hire.specs.Calls.{Reply, Does}
+use Rattle.hire.specs.Calls.{Call, Reply, Does, Runs, next as replies}
 use Rattle.unit.specs.Sound.{Sound}
 use Rattle.unit.specs.Unit.{newUnit}
-use Rattle.hire.proofs.Runs.{does-unique, does-sound}
+use Rattle.hire.proofs.Runs.{does-unique, does-sound, runs-exist}
 use Rattle.unit.proofs.Sound.{sound-new}
+use Rattle.line.specs.declared.Word.the-variants.{Stopped}
+use Rattle.line.specs.Line.{spoken}
 use Rattle.line.proofs.Adding.{printed-unique}
 use Rattle.line.proofs.Lines.{printed-same}
 use Rattle.stream.specs.Call.{callMost, asked}
 use Rattle.stream.proofs.Steady.{Steady, steady-got, steady-bind, steady-pure, number-steady, asked-steady}
 use Rattle.stream.proofs.Reach.{asked-longest, number-longest}
+use Rattle.stream.proofs.Onward.{Past, then-past, number-past, asked-past}
 use Rattle.service.specs.declared.Next.{Next}
 use Rattle.service.specs.declared.Next.the-variants.{Served, Wants, Done as Last}
 use Rattle.service.specs.declared.Shelf.{Shelf}
 use Rattle.service.specs.declared.Turn.{Turn}
 use Rattle.service.specs.Shelf.{Due, opens, asks, due, shelfOf, callOf, lineOf, Serves, lastLine, waits, Comes, Turned}
-use Rattle.service.specs.Session.{Whole, Ends}
+use Rattle.service.specs.Session.{Whole, Ends, Turns}
 
 -- ---- what is due
 
@@ -56,60 +61,128 @@ unfolding due _>>=_ pure
 due-longest true s q = asked-longest s (bind-refused (asked s 0) asks 1 q)
 due-longest false s q = omega (arith, number-longest s (bind-refused (number s 0) opens 1 q))
 
+-- what is due uses at least one byte
+pub due-past : (opened : Bool) (s : List ℕ) {d : Due} {e : ℕ} → due opened s 0 ≡ got d e → 1 ≤ e
+unfolding Past due _>>=_ pure
+due-past true s {d} {e} h = subst (Past 1) h (then-past 1 (asked s 0) (λ a n. got (asks a) n) (asked-past s) (λ a n. omega arith))
+due-past false s {d} {e} h = subst (Past 1) h (then-past 1 (number s 0) (λ m n. got (opens m) n) (number-past s 0) (λ m n. omega arith))
+
+-- where nothing stands there, more bytes are due
+due-none : (opened : Bool) → due opened [] 0 ≡ refused 1
+unfolding due _>>=_ andThen asked number taken decode
+due-none true = refl
+due-none false = refl
+
+some-line : (opened : Bool) (s : List ℕ) (n : ℕ) → 0 < length s → lastLine opened s n ≡ spoken (Stopped n)
+unfolding lastLine
+some-line true s n l = pick-false _ _ (ne-eqb (length s) 0 (λ q. omega arith))
+some-line false s n l = pick-false _ _ refl
+
+-- a stream that is damaged stays so, with the same line
+pub stopped-more : (opened : Bool) (s r : List ℕ) (n : ℕ) → due opened s 0 ≡ refused n → (n ≡ 1 → ⊥)
+    → lastLine opened s n ≡ lastLine opened (s ++ r) n
+stopped-more opened [] r n h z = absurd (z (let q : refused n ≡ refused 1 = sym h ∙ due-none opened in cc))
+stopped-more opened (b ∷ s) r n h z = some-line opened (b ∷ s) n (omega arith) ∙ sym (some-line opened (b ∷ s ++ r) n (omega arith))
+
 -- ---- what a turn leaves
 
--- a turn that is not served wants more bytes or is the last
-module _ (sh : Shelf) (s : List ℕ) (ended : Bool) (next : Next) (used : ℕ) (line : List ℕ) (after : Shelf) where
-  comes-whole : (o : Out Due) → due (sh .opened) s 0 ≡ o → Comes sh s ended o next used line after → next ≡ Served
-      → Whole sh s line after (drop used s)
-  unfolding Comes
-  comes-whole (got d e) h c q = record { what = d; end = e; read = h; done = c .2; rest = ap (λ (k : ℕ). drop k s) (c .1) }
-  comes-whole (refused n) h c q =
-      absurd
-      (by-cases (waits ended n)
-      (λ t. let x : Served ≡ Wants = sym q ∙ c .0 ∙ pick-true _ _ t in let z : _≡_ {A = ℕ} 0 1 = cc in omega arith)
-      (λ f. let x : Served ≡ Last = sym q ∙ c .0 ∙ pick-false _ _ f in let z : _≡_ {A = ℕ} 0 1 = cc in omega arith))
+-- it wants more bytes: nothing is printed, the shelf is as it was, the input has not ended, and fewer than the longest call's are there
+pub record Waiting (sh : Shelf) (s : List ℕ) (ended : Bool) (line : List ℕ) (after : Shelf) : Type 0 where
+  pub silent : line ≡ []
+  pub same : after ≡ sh
+  pub going : ended ≡ false
+  pub few : length s < callMost
 
-  comes-used : (o : Out Due) → due (sh .opened) s 0 ≡ o → Comes sh s ended o next used line after → next ≡ Served → used ≤ length s
-  unfolding Comes
-  comes-used (got d e) h c q = omega (arith, c .1, due-within (sh .opened) s h)
-  comes-used (refused n) h c q =
-      absurd
-      (by-cases (waits ended n)
-      (λ t. let x : Served ≡ Wants = sym q ∙ c .0 ∙ pick-true _ _ t in let z : _≡_ {A = ℕ} 0 1 = cc in omega arith)
-      (λ f. let x : Served ≡ Last = sym q ∙ c .0 ∙ pick-false _ _ f in let z : _≡_ {A = ℕ} 0 1 = cc in omega arith))
+-- it is the last: where it stops with 1 the input has ended
+abbrev Final : Shelf → List ℕ → Bool → List ℕ → Type 0
+Final sh s ended line = (e : Ends sh s line) × (e .why ≡ 1 → ended ≡ false → ⊥)
 
-  comes-wants : (o : Out Due) → due (sh .opened) s 0 ≡ o → Comes sh s ended o next used line after → next ≡ Wants
-      → (after ≡ sh) × (length s < callMost)
+not-served : (b : Bool) → Served ≡ pick b Wants Last → ⊥
+unfolding pick
+not-served true q = let z : _≡_ {A = ℕ} 0 1 = cc in omega arith
+not-served false q = let z : _≡_ {A = ℕ} 0 1 = cc in omega arith
+
+is-wants : (b : Bool) → Wants ≡ pick b Wants Last → b ≡ true
+unfolding pick
+is-wants true q = refl
+is-wants false q = absurd (let z : _≡_ {A = ℕ} 0 1 = cc in omega arith)
+
+is-last : (b : Bool) → Last ≡ pick b Wants Last → b ≡ false
+unfolding pick
+is-last true q = absurd (let z : _≡_ {A = ℕ} 0 1 = cc in omega arith)
+is-last false q = refl
+
+not-true : (b : Bool) → not b ≡ true → b ≡ false
+not-true true q = sym q
+not-true false q = refl
+
+module _ (sh : Shelf) (s : List ℕ) (ended : Bool) (used : ℕ) (line : List ℕ) (after : Shelf) where
+  whole-at : (o : Out Due) → due (sh .opened) s 0 ≡ o → Comes sh s ended o Served used line after
+      → Whole sh s line after (drop used s) × (used ≤ length s)
+  unfolding Comes
+  whole-at (got d e) h c = (
+    record { what = d; end = e; read = h; done = c .2; rest = ap (λ (k : ℕ). drop k s) (c .1) },
+    omega (arith, c .1, due-within (sh .opened) s h),
+  )
+  whole-at (refused n) h c = absurd (not-served (waits ended n) (c .0))
+
+  wants-at : (o : Out Due) → due (sh .opened) s 0 ≡ o → Comes sh s ended o Wants used line after → Waiting sh s ended line after
   unfolding Comes waits
-  comes-wants (got d e) h c q = absurd (let x : Served ≡ Wants = sym (c .0) ∙ q in let z : _≡_ {A = ℕ} 0 1 = cc in omega arith)
-  comes-wants (refused n) h c q =
-      by-cases (waits ended n)
-      (λ t. let one : n ≡ 1 = eqb-true n 1 (both (eqb n 1) (not ended) t .0) in (c .3, due-longest (sh .opened) s (h ∙ ap refused one)))
-      (λ f. absurd (let x : Wants ≡ Last = sym q ∙ c .0 ∙ pick-false _ _ f in let z : _≡_ {A = ℕ} 0 1 = cc in omega arith))
+  wants-at (got d e) h c = absurd (let q : Wants ≡ Served = c .0 in let z : _≡_ {A = ℕ} 0 1 = cc in omega arith)
+  wants-at (refused n) h c =
+      let t : waits ended n ≡ true = is-wants (waits ended n) (c .0) in
+      let p = both (eqb n 1) (not ended) t in
+      record {
+        silent = c .2 ∙ pick-true _ _ t;
+        same = c .3;
+        going = not-true ended (p .1);
+        few = due-longest (sh .opened) s (h ∙ ap refused (eqb-true n 1 (p .0)));
+      }
 
-  comes-ends : (o : Out Due) → due (sh .opened) s 0 ≡ o → Comes sh s ended o next used line after → next ≡ Last → Ends sh s line
-  unfolding Comes
-  comes-ends (got d e) h c q = absurd (let x : Served ≡ Last = sym (c .0) ∙ q in let z : _≡_ {A = ℕ} 0 1 = cc in omega arith)
-  comes-ends (refused n) h c q =
-      by-cases (waits ended n)
-      (λ t. absurd (let x : Last ≡ Wants = sym q ∙ c .0 ∙ pick-true _ _ t in let z : _≡_ {A = ℕ} 0 1 = cc in omega arith))
-      (λ f. record { why = n; read = h; line = c .2 ∙ pick-false _ _ f })
+  last-at : (o : Out Due) → due (sh .opened) s 0 ≡ o → Comes sh s ended o Last used line after → Final sh s ended line
+  unfolding Comes waits
+  last-at (got d e) h c = absurd (let q : Last ≡ Served = c .0 in let z : _≡_ {A = ℕ} 0 1 = cc in omega arith)
+  last-at (refused n) h c =
+      let f : waits ended n ≡ false = is-last (waits ended n) (c .0) in (
+        record { why = n; read = h; line = c .2 ∙ pick-false _ _ f },
+        λ one going.
+            let x : waits ended n ≡ waits false 1 = ap (λ (b : Bool). waits b n) going ∙ ap (waits false) one in
+            let y : true ≡ false = sym x ∙ f in
+            let z : _≡_ {A = ℕ} 0 1 = cc in omega arith,
+      )
 
-module _ {sh : Shelf} {s : List ℕ} {ended : Bool} {out : List ℕ} (r : Turn) {after : List ℕ}
-    (w : Turned sh s ended (due (sh .opened) s 0) out r after) where
-  pub turned-whole : r .next ≡ Served → Whole sh s (w .line) (r .shelf) (drop (r .used) s)
-  turned-whole q = comes-whole sh s ended (r .next) (r .used) (w .line) (r .shelf) (due (sh .opened) s 0) refl (w .comes) q
+module _ {sh : Shelf} {s : List ℕ} {ended : Bool} {used : ℕ} {line : List ℕ} {after : Shelf} where
+  pub turns-whole : Turns sh s ended Served used line after → Whole sh s line after (drop used s)
+  turns-whole t = whole-at sh s ended used line after (due (sh .opened) s 0) refl (t .comes) .0
 
   -- the bytes used are there
-  pub turned-used : r .next ≡ Served → r .used ≤ length s
-  turned-used q = comes-used sh s ended (r .next) (r .used) (w .line) (r .shelf) (due (sh .opened) s 0) refl (w .comes) q
+  pub turns-used : Turns sh s ended Served used line after → used ≤ length s
+  turns-used t = whole-at sh s ended used line after (due (sh .opened) s 0) refl (t .comes) .1
 
-  pub turned-wants : r .next ≡ Wants → (r .shelf ≡ sh) × (length s < callMost)
-  turned-wants q = comes-wants sh s ended (r .next) (r .used) (w .line) (r .shelf) (due (sh .opened) s 0) refl (w .comes) q
+  pub turns-wants : Turns sh s ended Wants used line after → Waiting sh s ended line after
+  turns-wants t = wants-at sh s ended used line after (due (sh .opened) s 0) refl (t .comes)
 
-  pub turned-ends : r .next ≡ Last → Ends sh s (w .line)
-  turned-ends q = comes-ends sh s ended (r .next) (r .used) (w .line) (r .shelf) (due (sh .opened) s 0) refl (w .comes) q
+  pub turns-last : Turns sh s ended Last used line after → Final sh s ended line
+  turns-last t = last-at sh s ended used line after (due (sh .opened) s 0) refl (t .comes)
+
+-- what `serve` promises is a turn
+pub turned-turns : {sh : Shelf} {s : List ℕ} {ended : Bool} {out after : List ℕ} (r : Turn)
+    (w : Turned sh s ended (due (sh .opened) s 0) out r after) {n : Next} → r .next ≡ n
+    → Turns sh s ended n (r .used) (w .line) (r .shelf)
+turned-turns {sh} {s} {ended} r w q =
+    subst (λ (x : Next). Turns sh s ended x (r .used) (w .line) (r .shelf)) q (record { comes = w .comes })
+
+-- ---- what is due can be done
+
+first-reply : {u v : Unit} {c : Call} {rs : List Reply} → Runs u (c ∷ []) rs v → (r : Reply) × (w : Unit) × Does u c r w
+first-reply (replies {v = w} {r = r} d p) = (r, w, d)
+
+pub serves-exists : (sh : Shelf) (d : Due) → Sound (sh .unit) → (line : List ℕ) × (after : Shelf) × Serves sh d line after
+unfolding Serves
+serves-exists sh (opens n) h = ([], shelfOf (newUnit n), (refl, refl))
+serves-exists sh (asks a) h =
+    let w = first-reply (runs-exist (sh .unit) (callOf a ∷ []) h .2) in
+    (lineOf a (w .0), shelfOf (w .1), (w .0, w .1, w .2, refl, refl))
 
 -- ---- a sound unit stays sound
 

@@ -10,7 +10,7 @@ use Rattle.unit.specs.declared.Unit.{Unit}
 use Rattle.hire.specs.Calls.{Reply, Does}
 use Rattle.unit.specs.Life.{Verdict, accepted}
 use Rattle.unit.specs.Life.{refused as denied}
-use Rattle.unit.specs.Told.{toldAnswer}
+use Rattle.unit.specs.Told.{toldVerdict}
 use Rattle.line.specs.declared.Word.{Word}
 use Rattle.line.specs.declared.Word.the-variants.{Refused}
 use Rattle.line.specs.Line.{spoken}
@@ -28,7 +28,7 @@ pub record Answers (w : Word) (d : Done) (used : ℕ) (out : List ℕ) (r : Turn
   pub next : r .next ≡ Served
   pub place : r .used ≡ used
   pub shelf : r .shelf ≡ shelfOf (d .unit)
-  pub printed : Printed (verdictLine w (toldAnswer (d .answer))) out (r .length) after
+  pub printed : Printed (verdictLine w (toldVerdict (d .answer))) out (r .length) after
 
 pub record Plans (u : Unit) (room : ℕ) (sheet out : List ℕ) (n : ℕ) (after : List ℕ) : Type 0 where
   pub reply : Reply

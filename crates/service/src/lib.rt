@@ -1,6 +1,7 @@
 // The shelf's service: a turn of the shelf from the start of what has been read so far, done by the unit.
 use field::Field;
 use field::Refusal;
+use field::Verdict;
 use field::Written;
 use line::Line;
 use line::Word;
@@ -19,7 +20,7 @@ ghost use Rattle.stream.specs.Call.{roomMost};
 ghost use Rattle.field.specs.Refusal.{numberOf};
 ghost use Rattle.field.specs.Sheet.{refused};
 ghost use Rattle.unit.specs.Sound.{Sound};
-ghost use Rattle.unit.specs.Told.{toldAnswer};
+ghost use Rattle.unit.specs.Told.{toldVerdict};
 ghost use Rattle.line.specs.Printed.{Printed};
 ghost use Rattle.service.specs.Shelf.{due, closed, Turned};
 ghost use Rattle.service.specs.Shelf.{waits as waitsOf};
@@ -59,12 +60,12 @@ impl Shelf {
 }
 
 // A word where a call was accepted, else its refusal.
-fn verdict(w: Word, answer: unit::Answer, line: &mut Line) -> usize
-    ensures { λ r. ⌜ Printed (verdictLine w (toldAnswer answer)) (now (line .entry)) r (now (line .exit)) ⌝ }
+fn verdict(w: Word, answer: Verdict, line: &mut Line) -> usize
+    ensures { λ r. ⌜ Printed (verdictLine w (toldVerdict answer)) (now (line .entry)) r (now (line .exit)) ⌝ }
 {
     match answer {
-        unit::Answer::Accepted => say(w, line),
-        unit::Answer::Refused(e) => refuse(e, line),
+        Verdict::Accepted => say(w, line),
+        Verdict::Refused(e) => refuse(e, line),
     }
 }
 

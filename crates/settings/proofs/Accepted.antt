@@ -1,17 +1,17 @@
 -- What is known of an accepted sheet and of its table.
 --     RowGot, row-steps, SheetGot, sheet-steps     the fields of a row, and of a sheet
 --     accepted-tenancy     its tenancy is not 0
---     accepted-filled, none-filled, told-filled    the table of a sheet, of no settings, of any answer is `Filled`
---     filled-length, filled-good, filled-zero      what that says: 64 rows, those of the disks in range, those beyond 0
+--     accepted-proper, none-proper, told-proper    the table of a sheet, of no settings, of any answer is `Proper`
+--     proper-length, proper-good, proper-zero      what that says: 64 rows, those of the disks in range, those beyond 0
 use mathlib.Core.Path.{_≡_, refl, sym, ap, _∙_, subst}
 use mathlib.Core.Bool.{true}
 use mathlib.Core.List.{List, []}
-use Prim.Native.Nat.{ℕ, _+_, _-_, _≤_, _<_}
+use Prim.Native.Nat.{ℕ, _-_, _≤_, _<_}
 use native.Mathlib.Omega.{arith}
-use lib.ListN.{length, getD, replicate, length-append, length-replicate, List·getD-append}
-use lib.Seq.{getD-append-add}
+use lib.ListN.{length, getD, List·getD-eq-default}
 use Rattle.basics.specs.Limits.{disksMost, costMost, loadMost, delayMost}
-use Rattle.basics.proofs.Lists.{all-at, replicate-at}
+use Rattle.basics.proofs.Padded.{pad-length, pad-at}
+use Rattle.basics.proofs.Lists.{all-at}
 use Rattle.field.specs.Sheet.{Out, got, refused, _>>=_, pure, times}
 use Rattle.field.specs.Field.{opening, inside}
 use Rattle.field.proofs.Sheet.{bind-got, after-got, pure-got}
@@ -22,7 +22,7 @@ use Rattle.settings.specs.declared.Row.{Row}
 use Rattle.settings.specs.declared.Settings.{Settings}
 use Rattle.settings.specs.declared.Table.{Table}
 use Rattle.settings.specs.Row.{disk, noDisk, cost, load, delay, row, inRange, allInRange}
-use Rattle.settings.specs.Table.{padded, table, noTable, Filled}
+use Rattle.settings.specs.Table.{table, noTable, Proper}
 use Rattle.settings.specs.Sheet.{kinds, heading, body, fields, settingsSheet}
 use Rattle.settings.specs.Told.{tableOf, Told}
 use Rattle.settings.proofs.Rows.{Good, range-in, all-rows, rows-all}
@@ -104,60 +104,49 @@ accepted-tenancy unit t s T e h = opening-tenancy unit t kinds s 0 (sheet-steps 
 
 -- ---- its table
 
-filled-table : (n : ℕ) (rs : List Row) → length rs ≡ n → n ≤ disksMost → allInRange rs ≡ true → Filled (table n rs)
+proper-table : (n : ℕ) (rs : List Row) → length rs ≡ n → n ≤ disksMost → allInRange rs ≡ true → Proper (table n rs)
 unfolding table
-filled-table n rs c f g = record { given = rs; count = c; few = f; good = g; held = refl }
+proper-table n rs c f g = record { given = rs; count = c; few = f; good = g; held = refl }
 
 -- N rows in range, at least one, and rows of 0 behind them
-pub accepted-filled : (unit t : ℕ) (s : List ℕ) (T : Table) (e : ℕ) → settingsSheet unit t s 0 ≡ got T e → Filled T × (1 ≤ T .disks)
+pub accepted-proper : (unit t : ℕ) (s : List ℕ) (T : Table) (e : ℕ) → settingsSheet unit t s 0 ≡ got T e → Proper T × (1 ≤ T .disks)
 unfolding table
-accepted-filled unit t s T e h =
+accepted-proper unit t s T e h =
     let w = sheet-steps unit t s T e h in
     let n = between-range 1 disksMost 6 6 s (w .fourth) (w .disks-got) in
     let g = times-all row Good s (row-good s) (w .disks) (w .fifth) (w .rows) e (w .rows-got) in
-    subst (λ (x : Table). Filled x × (1 ≤ x .disks)) (w .is)
-    (filled-table (w .disks) (w .rows) (g .0) (n .1) (rows-all (w .rows) (g .1)), n .0)
+    subst (λ (x : Table). Proper x × (1 ≤ x .disks)) (w .is)
+    (proper-table (w .disks) (w .rows) (g .0) (n .1) (rows-all (w .rows) (g .1)), n .0)
 
 -- no settings yet
-pub none-filled : Filled noTable
+pub none-proper : Proper noTable
 unfolding noTable allInRange
-none-filled = filled-table 0 [] refl (omega arith) refl
+none-proper = proper-table 0 [] refl (omega arith) refl
 
-filled-of : (unit t : ℕ) (s : List ℕ) (o : Out Table) → settingsSheet unit t s 0 ≡ o → Filled (tableOf o)
+proper-of : (unit t : ℕ) (s : List ℕ) (o : Out Table) → settingsSheet unit t s 0 ≡ o → Proper (tableOf o)
 unfolding tableOf
-filled-of unit t s (got T e) h = accepted-filled unit t s T e h .0
-filled-of unit t s (refused n) h = none-filled
+proper-of unit t s (got T e) h = accepted-proper unit t s T e h .0
+proper-of unit t s (refused n) h = none-proper
 
 -- whatever the reader answers, its table is one that a unit may hold
-pub told-filled : (unit t : ℕ) (s : List ℕ) {n : ℕ} {r : Settings} → Told n (settingsSheet unit t s 0) r → Filled (r .table)
-told-filled unit t s w =
-    subst (λ (x : Table). Filled x) (sym (w .table)) (filled-of unit t s (settingsSheet unit t s 0) refl)
+pub told-proper : (unit t : ℕ) (s : List ℕ) {n : ℕ} {r : Settings} → Told n (settingsSheet unit t s 0) r → Proper (r .table)
+told-proper unit t s w =
+    subst (λ (x : Table). Proper x) (sym (w .table)) (proper-of unit t s (settingsSheet unit t s 0) refl)
 
-module _ {T : Table} (w : Filled T) where
-  -- rows of 0 behind those that were given
-  rest : List Row
-  rest = replicate (disksMost - length (w .given)) noDisk
-
+module _ {T : Table} (w : Proper T) where
   -- there are 64 rows
-  pub filled-length : length (T .rows) ≡ disksMost
-  unfolding padded rest
-  filled-length =
-      ap length (w .held)
-      ∙ omega (arith, length-append (w .given) rest, length-replicate (disksMost - length (w .given)) noDisk, w .count, w .few)
+  pub proper-length : length (T .rows) ≡ disksMost
+  proper-length = ap length (w .held) ∙ pad-length noDisk disksMost (w .given) (omega (arith, w .count, w .few))
 
   -- those below N are in range
-  pub filled-good : (i : ℕ) → i < T .disks → inRange (getD (T .rows) i noDisk) ≡ true
-  unfolding padded
-  filled-good i h =
+  pub proper-good : (i : ℕ) → i < T .disks → inRange (getD (T .rows) i noDisk) ≡ true
+  proper-good i h =
       let l : i < length (w .given) = omega (arith, w .count) in
-      ap (λ x. inRange (getD x i noDisk)) (w .held) ∙ ap inRange (List·getD-append (w .given) _ noDisk i l)
+      ap (λ x. inRange (getD x i noDisk)) (w .held) ∙ ap inRange (pad-at noDisk disksMost (w .given) i)
       ∙ all-at Good (w .given) (all-rows (w .given) (w .good)) i noDisk l
 
   -- the others are 0
-  pub filled-zero : (i : ℕ) → T .disks ≤ i → getD (T .rows) i noDisk ≡ noDisk
-  unfolding padded rest
-  filled-zero i h =
-      let k : i ≡ length (w .given) + (i - T .disks) = omega (arith, w .count) in
-      ap (λ x. getD x i noDisk) (w .held) ∙ ap (λ n. getD (padded (w .given)) n noDisk) k
-      ∙ getD-append-add (w .given) rest (i - T .disks) noDisk
-      ∙ replicate-at noDisk (disksMost - length (w .given)) (i - T .disks)
+  pub proper-zero : (i : ℕ) → T .disks ≤ i → getD (T .rows) i noDisk ≡ noDisk
+  proper-zero i h =
+      ap (λ x. getD x i noDisk) (w .held) ∙ pad-at noDisk disksMost (w .given) i
+      ∙ List·getD-eq-default (w .given) noDisk {n = i} (omega (arith, w .count))

@@ -4,12 +4,13 @@
 --     Rows, rows-start, rows-step, rows-stop, rows-told       the loop over the rows
 --     told-none, read-told, read-stops                        how the reader ends
 use mathlib.Core.Path.{_≡_, refl, sym, ap, _∙_, subst}
-use mathlib.Core.List.{List, [], _∷_, _++_, append-assoc}
-use Prim.Native.Nat.{ℕ, suc, _+_, _-_, _≤_, _<_}
+use mathlib.Core.List.{List, [], _∷_, _++_}
+use Prim.Native.Nat.{ℕ, _+_, _-_, _≤_, _<_}
 use native.Mathlib.Omega.{arith}
-use lib.ListN.{length, set, replicate, length-append}
-use lib.Seq.{set-at}
+use lib.ListN.{length, set, length-append}
 use Rattle.basics.specs.Limits.{disksMost}
+use Rattle.basics.specs.Padded.{padTo}
+use Rattle.basics.proofs.Padded.{pad-set}
 use Rattle.field.specs.declared.Refusal.{Refusal}
 use Rattle.field.specs.declared.Verdict.the-variants.{Accepted}
 use Rattle.field.specs.Refusal.{numberOf}
@@ -26,7 +27,7 @@ use Rattle.settings.specs.declared.RowRead.the-variants.{Refused as Stop
 use Rattle.settings.specs.declared.Settings.{Settings}
 use Rattle.settings.specs.declared.Table.{Table}
 use Rattle.settings.specs.Row.{disk, noDisk, cost, load, delay, row}
-use Rattle.settings.specs.Table.{padded, table, noTable}
+use Rattle.settings.specs.Table.{table, noTable}
 use Rattle.settings.specs.Sheet.{kinds, heading, body, fields, settingsSheet}
 use Rattle.settings.specs.Told.{toldBy, tableOf, Told}
 use Rattle.settings.specs.Parts.{refusedWith, toldRow}
@@ -80,24 +81,13 @@ module _ (unit t : ℕ) (s : List ℕ) (at : ℕ) where
 
 -- ---- the loop over the rows
 
--- one row more in the place of a row of 0
-padded-more : (rs : List Row) (r : Row) (i : ℕ) → length rs ≡ i → i < disksMost → set (padded rs) i r ≡ padded (rs ++ (r ∷ []))
-unfolding padded
-padded-more rs r i e h =
-    let k : disksMost - length rs ≡ suc (disksMost - (i + 1)) = omega (arith, e) in
-    let m : disksMost - length (rs ++ (r ∷ [])) ≡ disksMost - (i + 1) = omega (arith, e, length-append rs (r ∷ [])) in
-    ap (λ (n : ℕ). set (rs ++ replicate n noDisk) i r) k
-    ∙ set-at rs noDisk (replicate (disksMost - (i + 1)) noDisk) r i e
-    ∙ sym (append-assoc rs (r ∷ []) (replicate (disksMost - (i + 1)) noDisk))
-    ∙ ap (λ (n : ℕ). (rs ++ (r ∷ [])) ++ replicate n noDisk) (sym m)
-
 -- i rows of n are read: the table holds them, and the rest is as the definition says
 pub record Rows (n : ℕ) (s : List ℕ) (start : ℕ) (rows : List Row) (at i : ℕ) : Type 0 where
   pub done : List Row
   pub count : length done ≡ i
   pub below : i ≤ n
   pub spec : times n row s start ≡ prefix done (times (n - i) row s at)
-  pub held : rows ≡ padded done
+  pub held : rows ≡ padTo noDisk disksMost done
 
 -- none yet, in the empty table
 pub rows-start : (n : ℕ) (s : List ℕ) (start : ℕ) {T : Table} → T ≡ noTable → Rows n s start (T .rows) start 0
@@ -112,7 +102,7 @@ module _ {n : ℕ} {s : List ℕ} {start : ℕ} {rows : List Row} {at i : ℕ} (
     count = omega (arith, w .count, length-append (w .done) (r ∷ []));
     below = omega arith;
     spec = w .spec ∙ times-step row s n i at (w .done) h f;
-    held = ap (λ x. set x i r) (w .held) ∙ padded-more (w .done) r i (w .count) (omega arith);
+    held = ap (λ x. set x i r) (w .held) ∙ pad-set noDisk disksMost (w .done) r i (w .count) (omega arith);
   }
 
   -- a row that is refused

@@ -8,10 +8,10 @@ use mathlib.Core.List.{List, [], _∷_, _++_, map}
 use Prim.Native.Nat.{ℕ, _-_, _^_, _≤_, _<_}
 use native.Mathlib.Omega.{arith}
 use borrow.Author.Tests.{le-leb}
-use lib.ListN.{length, take, replicate, length-map}
-use lib.Seq.{take-at}
+use lib.ListN.{length, take, length-map}
 use Rattle.basics.specs.Buffer.{over}
 use Rattle.basics.specs.Limits.{disksMost, costMost, loadMost, delayMost}
+use Rattle.basics.proofs.Padded.{pad-front}
 use Rattle.basics.proofs.Choice.{pick-true}
 use Rattle.basics.proofs.Lists.{one-listed}
 use Rattle.number.specs.Bytes.{Bytes}
@@ -29,7 +29,7 @@ use Rattle.field.proofs.Lists.{reads-times, times-spelt}
 use Rattle.settings.specs.declared.Row.{Row}
 use Rattle.settings.specs.declared.Table.{Table}
 use Rattle.settings.specs.Row.{noDisk, row, allInRange, rowBytes}
-use Rattle.settings.specs.Table.{padded, table, disksOf, costs, loads, delays}
+use Rattle.settings.specs.Table.{table, diskRows, costs, loads, delays}
 use Rattle.settings.specs.Sheet.{kinds, heading, body, fields, settingsSheet}
 use Rattle.settings.specs.Draft.{rowsOf, headingBytes, sheetBytes, settingsDraft}
 use Rattle.settings.proofs.Rows.{Good, in-range, range-in, all-rows, rows-all}
@@ -98,9 +98,9 @@ rows-again [] = refl
 rows-again (r ∷ rs) = ap (λ x. r ∷ x) (rows-again rs)
 
 -- the rows of a table's disks
-disks-table : (n : ℕ) (rs : List Row) → length rs ≡ n → disksOf (table n rs) ≡ rs
-unfolding disksOf table padded
-disks-table n rs h = take-at rs (replicate (disksMost - length rs) noDisk) n h
+disks-table : (n : ℕ) (rs : List Row) → length rs ≡ n → diskRows (table n rs) ≡ rs
+unfolding diskRows table
+disks-table n rs h = pad-front noDisk disksMost rs n h
 
 -- a draft of rows that are in range is their sheet
 draft-rows : (unit t n : ℕ) (rs : List Row) → 0 < t → 1 ≤ n → n ≤ disksMost → length rs ≡ n → allInRange rs ≡ true

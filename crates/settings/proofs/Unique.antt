@@ -21,12 +21,12 @@ pub empty-unique : (a b : Table) → a ≡ noTable → b ≡ noTable → a ≡ b
 empty-unique a b p q = p ∙ sym q
 
 -- two answers that say the same are the same
-answer-injective : (n : ℕ) (T : Table) (a b : Verdict) → toldBy n a T ≡ toldBy n b T → a ≡ b
+told-injective : (n : ℕ) (T : Table) (a b : Verdict) → toldBy n a T ≡ toldBy n b T → a ≡ b
 unfolding toldBy
-answer-injective n T Accepted Accepted h = refl
-answer-injective n T Accepted (Refused e) h = cc
-answer-injective n T (Refused e) Accepted h = cc
-answer-injective n T (Refused e) (Refused f) h = let m : numberOf e ≡ numberOf f = cc in ap Refused (number-injective e f m)
+told-injective n T Accepted Accepted h = refl
+told-injective n T Accepted (Refused e) h = cc
+told-injective n T (Refused e) Accepted h = cc
+told-injective n T (Refused e) (Refused f) h = let m : numberOf e ≡ numberOf f = cc in ap Refused (number-injective e f m)
 
 -- `read`: the answer and the table
 pub read-unique : (unit t : ℕ) (s : List ℕ) (n : ℕ) (a b : Settings)
@@ -34,7 +34,7 @@ pub read-unique : (unit t : ℕ) (s : List ℕ) (n : ℕ) (a b : Settings)
 read-unique unit t s n a b p q =
     let same = p .table ∙ sym (q .table) in
     let told = ap (toldBy n (a .answer)) (sym same) ∙ p .answer ∙ sym (q .answer) in
-    ap (λ x. record { answer = x; table = a .table }) (answer-injective n (b .table) (a .answer) (b .answer) told)
+    ap (λ x. record { answer = x; table = a .table }) (told-injective n (b .table) (a .answer) (b .answer) told)
     ∙ ap (λ x. record { answer = b .answer; table = x }) same
 
 -- `write`: the answer and the buffer

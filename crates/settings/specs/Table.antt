@@ -1,44 +1,41 @@
 -- The table of a unit's disks.
-use Prim.Native.Nat.{ℕ, _-_, _≤_}
+use Prim.Native.Nat.{ℕ, _≤_}
 use mathlib.Core.Bool.{true}
-use mathlib.Core.List.{List, [], _++_, map}
+use mathlib.Core.List.{List, [], map}
 use mathlib.Core.Path.{_≡_}
-use lib.ListN.{length, take, replicate}
+use lib.ListN.{length, take}
 use Rattle.basics.specs.Limits.{disksMost}
+use Rattle.basics.specs.Padded.{padTo}
 use Rattle.settings.specs.declared.Row.{Row}
 use Rattle.settings.specs.declared.Table.{Table}
 use Rattle.settings.specs.Row.{noDisk, allInRange}
 
--- 64 rows: those given, and rows of 0 behind them
-unfoldable pub padded : List Row → List Row
-padded rs = rs ++ replicate (disksMost - length rs) noDisk
-
--- N disks with their rows
+-- N disks with their rows, and rows of 0 behind them: 64 rows
 unfoldable pub table : ℕ → List Row → Table
-table n rs = record { disks = n; rows = padded rs }
+table n rs = record { disks = n; rows = padTo noDisk disksMost rs }
 
 -- no settings yet: N is 0, all rows are 0
 unfoldable pub noTable : Table
 noTable = table 0 []
 
 -- the rows of the N disks
-unfoldable pub disksOf : Table → List Row
-disksOf t = take (t .disks) (t .rows)
+unfoldable pub diskRows : Table → List Row
+diskRows t = take (t .disks) (t .rows)
 
 -- their costs, loads and delays
 unfoldable pub costs : Table → List ℕ
-costs t = map (λ r. r .cost) (disksOf t)
+costs t = map (λ r. r .cost) (diskRows t)
 
 unfoldable pub loads : Table → List ℕ
-loads t = map (λ r. r .load) (disksOf t)
+loads t = map (λ r. r .load) (diskRows t)
 
 unfoldable pub delays : Table → List ℕ
-delays t = map (λ r. r .delay) (disksOf t)
+delays t = map (λ r. r .delay) (diskRows t)
 
 -- a table that a unit may hold: the rows of its N disks are in range, and those from N on are 0
-pub record Filled (t : Table) : Type 0 where
+pub record Proper (t : Table) : Type 0 where
   pub given : List Row
   pub count : length given ≡ t .disks
   pub few : t .disks ≤ disksMost
   pub good : allInRange given ≡ true
-  pub held : t .rows ≡ padded given
+  pub held : t .rows ≡ padTo noDisk disksMost given

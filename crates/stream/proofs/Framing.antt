@@ -16,10 +16,10 @@ use Rattle.field.specs.declared.Refusal.{Refusal}
 use Rattle.field.specs.Field.{taken, number, inside}
 use Rattle.field.specs.Refusal.{numberOf}
 use Rattle.field.specs.Sheet.{Out, got, refused, Parser, pure}
-use Rattle.field.proofs.Readers.{number-past, between-got, between-above, between-stops}
+use Rattle.field.proofs.Readers.{number-past}
 use Rattle.field.proofs.Sheet.{next, stops}
 use Rattle.field.proofs.Unique.{number-injective}
-use Rattle.field.proofs.Values.{between-range}
+use Rattle.field.proofs.Values.{between-within, between-range}
 use Rattle.stream.specs.declared.Span.{Span}
 use Rattle.stream.specs.declared.Span.the-variants.{Part, Refused as NoSheet}
 use Rattle.stream.specs.declared.Call.{Call}
@@ -47,32 +47,30 @@ number-within s at v e h =
 
 -- ---- a sheet
 
-module _ (s : List ℕ) (at n e : ℕ) (h : number s at ≡ got n e) where
-  pub sheet-large : requestMost < n → sheet s at ≡ refused 6
+pub length-within : (s : List ℕ) (at n e : ℕ) → inside 0 requestMost 6 s at ≡ got n e → e ≤ length s
+length-within s at n e h = number-within s at n e (between-within 0 requestMost 6 6 s at h .0)
+
+module _ (s : List ℕ) (at n e : ℕ) (h : inside 0 requestMost 6 s at ≡ got n e) where
+  sheet-bytes : sheet s at ≡ bytes n s e
   unfolding sheet
-  sheet-large l = stops (inside 0 requestMost 6) _ s at (between-above s at h 0 requestMost 6 6 l)
+  sheet-bytes = next (inside 0 requestMost 6) _ s at h
 
-  module _ (l : n ≤ requestMost) where
-    sheet-bytes : sheet s at ≡ bytes n s e
-    unfolding sheet
-    sheet-bytes = next (inside 0 requestMost 6) _ s at (between-got s at h 0 requestMost 6 6 (omega arith) l)
+  pub sheet-past : length s - e < n → sheet s at ≡ refused 1
+  unfolding bytes
+  sheet-past p = sheet-bytes ∙ pick-false _ _ (lt-leb (e + n) (length s) (omega (arith, length-within s at n e h)))
 
-    pub sheet-past : length s - e < n → sheet s at ≡ refused 1
-    unfolding bytes
-    sheet-past p = sheet-bytes ∙ pick-false _ _ (lt-leb (e + n) (length s) (omega (arith, number-within s at n e h)))
+  pub sheet-spans : n ≤ length s - e → Spans s (sheet s at) (Part e (e + n))
+  unfolding Spans bytes part
+  sheet-spans p =
+      let w : e + n ≤ length s = omega (arith, length-within s at n e h) in
+      let k : n ≡ e + n - e = omega arith in (
+        sheet-bytes ∙ pick-true _ _ (le-leb (e + n) (length s) w) ∙ ap (λ (m : ℕ). got (take m (drop e s)) (e + n)) k,
+        record { order = omega arith; end = w },
+      )
 
-    pub sheet-spans : n ≤ length s - e → Spans s (sheet s at) (Part e (e + n))
-    unfolding Spans bytes part
-    sheet-spans p =
-        let w : e + n ≤ length s = omega (arith, number-within s at n e h) in
-        let k : n ≡ e + n - e = omega arith in (
-          sheet-bytes ∙ pick-true _ _ (le-leb (e + n) (length s) w) ∙ ap (λ (m : ℕ). got (take m (drop e s)) (e + n)) k,
-          record { order = omega arith; end = w },
-        )
-
-pub sheet-stops : (s : List ℕ) (at n : ℕ) → number s at ≡ refused n → sheet s at ≡ refused n
+pub sheet-stops : (s : List ℕ) (at n : ℕ) → inside 0 requestMost 6 s at ≡ refused n → sheet s at ≡ refused n
 unfolding sheet
-sheet-stops s at n h = stops (inside 0 requestMost 6) _ s at (between-stops s at h 0 requestMost 6 6)
+sheet-stops s at n h = stops (inside 0 requestMost 6) _ s at h
 
 -- what was answered of a sheet
 pub spans-part : {s : List ℕ} {o : Out (List ℕ)} {x : Span} {from to : ℕ} → Spans s o x → x ≡ Part from to

@@ -1,3 +1,4 @@
 pub mod Framing
 pub mod Steady
 pub mod Reach
+pub mod Onward

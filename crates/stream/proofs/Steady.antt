@@ -1,6 +1,8 @@
 -- A call in a stream does not depend on what follows it: more bytes change only an answer of 1.
---     Steady, steady-got     such a reader; what it gave it gives with more bytes too
---     asked-steady           one call is such a reader
+--     Steady           such a reader
+--     steady-got       what it gave it gives with more bytes too
+--     steady-refused   what it refused with another number than 1 it refuses with more bytes too
+--     asked-steady     one call is such a reader
 use mathlib.Core.Path.{_≡_, refl, sym, ap, _∙_, subst}
 use mathlib.Core.Bool.{Bool, true, false}
 use mathlib.Core.List.{List, [], _∷_, _++_}
@@ -72,6 +74,16 @@ same-got n o q a e h (inr x) = (x .0 ∙ h, subst (Ends n) h (x .1))
 pub steady-got : {A : Type 0} {p : Parser A} → Steady p → (s r : List ℕ) {a : A} {e : ℕ} → p s 0 ≡ got a e
     → (p (s ++ r) 0 ≡ got a e) × (e ≤ length s)
 steady-got {A} {p} w s r {a} {e} h = same-got (length s) (p s 0) (p (s ++ r) 0) a e h (w .more-bytes s r 0 (omega arith))
+
+same-refused : {A : Type 0} (n : ℕ) (o q : Out A) (m : ℕ) → o ≡ refused m → (m ≡ 1 → ⊥) → Same n o q → q ≡ refused m
+unfolding Same
+same-refused n o q m h z (inl x) = absurd (z (let w : refused m ≡ refused 1 = sym h ∙ x in cc))
+same-refused n o q m h z (inr x) = x .0 ∙ h
+
+-- any other refusal than 1 stands, whatever follows
+pub steady-refused : {A : Type 0} {p : Parser A} → Steady p → (s r : List ℕ) {m : ℕ} → p s 0 ≡ refused m → (m ≡ 1 → ⊥)
+    → p (s ++ r) 0 ≡ refused m
+steady-refused {A} {p} w s r {m} h z = same-refused (length s) (p s 0) (p (s ++ r) 0) m h z (w .more-bytes s r 0 (omega arith))
 
 firm-taken : (n at : ℕ) (d e : Decoded) → ((v k : ℕ) → d ≡ value v k → at + k ≤ n) → Firm d e → Same n (taken at d) (taken at e)
 unfolding Firm Same Ends taken

@@ -28,12 +28,9 @@ pub enum Call {
 pub fn sheet(s: &[u8], at: usize) -> Span
     ensures { λ r. ⌜ Spans (now (s .entry)) (framedSheet (now (s .entry)) at) r ⌝ }
 {
-    match field::number(s, at) {
+    match field::inside(s, at, 0, REQUEST_MOST as u32, Refusal::OutOfRange) {
         Field::Got(n, next) => {
             let size = n as usize;
-            if REQUEST_MOST < size {
-                return Span::Refused(Refusal::OutOfRange);
-            }
             if s.len() - next < size {
                 return Span::Refused(Refusal::SheetEnds);
             }

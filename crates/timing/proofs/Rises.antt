@@ -30,7 +30,7 @@ use Rattle.basics.proofs.Count.{gate-true, gate-mono, sum-ext, sum-le, sum-term
 use Rattle.model.proofs.Capacity.{capacity-grows, ends-fits}
 use Rattle.model.proofs.Duality.{left}
 use Rattle.places.specs.Places.{entry, holds, roomy}
-use Rattle.places.specs.Table.{caseOf}
+use Rattle.places.specs.Table.{maskedCase}
 use Rattle.places.specs.Among.{among}
 use Rattle.places.specs.Seats.{Shifting, Shifted}
 use Rattle.places.specs.Room.{Open, OpenBut}
@@ -40,7 +40,7 @@ use Rattle.places.proofs.Among.{inside-has, has-inside, among-touched}
 use Rattle.places.proofs.Shifts.{seated-shifting}
 use Rattle.search.proofs.Caught.{caught-size}
 use Rattle.search.proofs.Steps.{shifted-drawn, drawn-more, caught-roomy, open-but}
-use Rattle.capacity.specs.Capacities.{Capacities, roomOf, Awaited, First}
+use Rattle.capacity.specs.Capacities.{Capacities, roomOf, Awaited, FirstRoom}
 use Rattle.capacity.proofs.Rooms.{capacity-most}
 use Rattle.timing.specs.Times.{Blank, Least}
 use Rattle.timing.specs.Parts.{countFrom, SoFar, Raised, Turned}
@@ -224,7 +224,8 @@ module _ {n q b : ℕ} {masks costs starts caps seats counts next prev out by : 
           }
 
       -- these blocks are short just before r
-      short-before : {r : ℕ} → First n costs starts t x (countFrom b q masks x) r → ShortAt (caseOf n q masks costs starts) (r - 1) S
+      short-before : {r : ℕ} → FirstRoom n costs starts t x (countFrom b q masks x) r
+          → ShortAt (maskedCase n q masks costs starts) (r - 1) S
       unfolding ShortAt Short room capacityAt
       short-before {r} f =
           omega (
@@ -239,7 +240,7 @@ module _ {n q b : ℕ} {masks costs starts caps seats counts next prev out by : 
 
       so-far-raised : {caps′ seats′ counts′ next′ prev′ out′ by′ : List ℕ} {r : ℕ} (room′ : ℕ)
           → Blocked n q b 0 0 masks seats counts now next prev seats′ counts′ next′ prev′ out′ by′ x
-          → First n costs starts t x (countFrom b q masks x) r → Capacities n costs starts r caps′ → Open n caps′ counts′ room′
+          → FirstRoom n costs starts t x (countFrom b q masks x) r → Capacities n costs starts r caps′ → Open n caps′ counts′ room′
           → SoFar n q b masks costs starts caps′ seats′ counts′ next′ prev′ out′ by′ r room′
       unfolding Within
       so-far-raised {caps′} {r = r} room′ k f a o =

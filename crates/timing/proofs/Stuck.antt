@@ -22,9 +22,9 @@ use Rattle.basics.proofs.Tests.{by-cases}
 use Rattle.model.proofs.Duality.{none-short}
 use Rattle.model.proofs.Closed.{exact, least-closed}
 use Rattle.places.specs.Places.{entry, holds}
-use Rattle.places.specs.Table.{caseOf, Table, Copies}
+use Rattle.places.specs.Table.{maskedCase, Table, Copies}
 use Rattle.places.specs.Among.{among}
-use Rattle.fill.specs.Filled.{Filled}
+use Rattle.fill.specs.Packed.{MostPlaced}
 use Rattle.places.proofs.Laws.{unplaced-count, all-placed}
 use Rattle.places.proofs.Among.{inside-has, has-inside, among-touched}
 use Rattle.capacity.specs.Capacities.{Capacities}
@@ -33,14 +33,14 @@ use Rattle.timing.specs.Parts.{FilledAt}
 
 pub within-caps : {n : ℕ} {costs starts : List ℕ} {t : ℕ} {caps : List ℕ} → Capacities n costs starts t caps
     → (q : ℕ) (masks seats : List ℕ) → Within n q (entry caps) (entry seats)
-    → Within n q (capacityAt (caseOf n q masks costs starts) t) (entry seats)
+    → Within n q (capacityAt (maskedCase n q masks costs starts) t) (entry seats)
 unfolding Within capacityAt
 within-caps c q masks seats w d l = omega (arith, c .each d l, w d l)
 
 module _ {n q : ℕ} {masks costs starts : List ℕ} {t : ℕ} {caps seats counts : List ℕ} {x : ℕ} (tb : Table n costs starts)
-    (cs : Copies n q masks) (c : Capacities n costs starts t caps) (f : Filled n q masks caps seats counts x) where
+    (cs : Copies n q masks) (c : Capacities n costs starts t caps) (f : MostPlaced n q masks caps seats counts x) where
   abbrev C : ℕ → ℕ
-  C = capacityAt (caseOf n q masks costs starts) t
+  C = capacityAt (maskedCase n q masks costs starts) t
 
   abbrev S : ℕ → Bool
   S = among masks x

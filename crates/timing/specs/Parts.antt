@@ -17,12 +17,12 @@ use Rattle.model.specs.Assignment.{Within}
 use Rattle.basics.specs.Count.{count}
 use Rattle.model.specs.Time.{ShortAt}
 use Rattle.places.specs.Places.{entry, holds}
-use Rattle.places.specs.Table.{caseOf, Table, Copies}
+use Rattle.places.specs.Table.{maskedCase, Table, Copies}
 use Rattle.places.specs.Among.{among}
 use Rattle.places.specs.Seats.{Seated}
 use Rattle.places.specs.Room.{Open}
-use Rattle.fill.specs.Filled.{Packed}
-use Rattle.capacity.specs.Capacities.{Capacities, Awaited, First}
+use Rattle.fill.specs.Packed.{Packed}
+use Rattle.capacity.specs.Capacities.{Capacities, Awaited, FirstRoom}
 use Rattle.timing.specs.declared.Moment.{Moment}
 
 -- how many of the blocks from b on have all copies in x
@@ -41,7 +41,7 @@ pub record SoFar (n q b : ℕ) (masks costs starts caps seats counts next prev o
   pub on : (i : ℕ) → i < b → i < q → getD seats i 0 < n
   pub off : (i : ℕ) → b ≤ i → i < q → getD seats i 0 ≡ n
   pub time : t ≤ timeMost
-  pub lower : 0 < t → (S : ℕ → Bool) × ShortAt (caseOf n q masks costs starts) (t - 1) S
+  pub lower : 0 < t → (S : ℕ → Bool) × ShortAt (maskedCase n q masks costs starts) (t - 1) S
   pub long : length by ≡ placesMost
 
 -- no copy of block b is on a disk that has room
@@ -57,7 +57,7 @@ pub record Raising (n q b : ℕ) (masks costs starts : List ℕ) (t x : ℕ) (ca
 
 -- the first time at which there is room for all these blocks, the capacities then, and the disks that have room
 pub record Raised (n q b : ℕ) (masks costs starts : List ℕ) (t x : ℕ) (caps′ counts : List ℕ) (r : Moment) : Type 0 where
-  pub first : First n costs starts t x (countFrom b q masks x) (r .time)
+  pub first : FirstRoom n costs starts t x (countFrom b q masks x) (r .time)
   pub caps-at : Capacities n costs starts (r .time) caps′
   pub opened : Open n caps′ counts (r .room)
 

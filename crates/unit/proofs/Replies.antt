@@ -49,14 +49,14 @@ module _ {u : Unit} {s out after : List ℕ} where
   module _ (w : Sound u) (i : u .number < 2 ^ 32) (j : tenancyOf u < 2 ^ 32) {r : Requested} (a : Replied u s out r after)
       {m : Case} {e : ℕ} (g : askedOf u s ≡ got m e) {n : ℕ} (h : r .answer ≡ Length n) where
     pub replied-read : (p : Plan) × PlanFor m p × (planSheet (u .number) (tenancyOf u) (take n after) 0 ≡ got p n)
-    replied-read = answered-read (u .number) (tenancyOf u) s (w .filled) i j g (replied-as a h)
+    replied-read = answered-read (u .number) (tenancyOf u) s (w .proper) i j g (replied-as a h)
 
     pub replied-greatest : 0 < m .blocks
         → (p : Plan) × (planSheet (u .number) (tenancyOf u) (take n after) 0 ≡ got p n)
         × LeastTime m (p .time) × GreatestEarliest m (p .time)
-    replied-greatest l = answered-greatest (u .number) (tenancyOf u) s (w .filled) i j g (replied-as a h) l
+    replied-greatest l = answered-greatest (u .number) (tenancyOf u) s (w .proper) i j g (replied-as a h) l
 
     pub replied-received : {disks short disks′ short′ : List ℕ} {x : Answer} → blocksMost ≤ length disks → blocksMost ≤ length short
         → Received (planSheet (u .number) (tenancyOf u) (take n after) 0) n disks short x disks′ short′
         → (h : Head) × (x ≡ Accepted h) × PlanFor m (handed h disks′ short′)
-    replied-received l k v = answered-received (u .number) (tenancyOf u) s (w .filled) i j g (replied-as a h) l k v
+    replied-received l k v = answered-received (u .number) (tenancyOf u) s (w .proper) i j g (replied-as a h) l k v

@@ -10,7 +10,7 @@ use Rattle.basics.proofs.Choice.{pick-elim}
 use Rattle.field.specs.Sheet.{Out, got, refused as refusedSheet}
 use Rattle.settings.specs.declared.Table.{Table}
 use Rattle.settings.specs.Sheet.{settingsSheet}
-use Rattle.settings.proofs.Accepted.{accepted-filled, accepted-tenancy, none-filled}
+use Rattle.settings.proofs.Accepted.{accepted-proper, accepted-tenancy, none-proper}
 use Rattle.unit.specs.declared.Unit.{Unit}
 use Rattle.unit.specs.Life.{Outcome, takes, refuses, rent, settled, set, giveBack}
 use Rattle.unit.specs.Sound.{Sound}
@@ -19,7 +19,7 @@ use Rattle.unit.proofs.Lives.{tenancy-free}
 
 pub sound-new : (n : ℕ) → Sound (newUnit n)
 unfolding newUnit
-sound-new n = record { tenancy = λ h. absurd (let z : _≡_ {A = ℕ} 0 1 = cc in omega arith); cleared = λ _. refl; filled = none-filled }
+sound-new n = record { tenancy = λ h. absurd (let z : _≡_ {A = ℕ} 0 1 = cc in omega arith); cleared = λ _. refl; proper = none-proper }
 
 module _ (u : Unit) (w : Sound u) where
   pub sound-rent : (t : ℕ) → Sound (rent u t .unit)
@@ -30,7 +30,7 @@ module _ (u : Unit) (w : Sound u) where
       (λ l. record {
         tenancy = λ _. omega (arith, ltb-true (u .last) t l);
         cleared = λ h. absurd (let z : _≡_ {A = ℕ} 0 1 = cc in omega arith);
-        filled = none-filled;
+        proper = none-proper;
       })
       (λ _. w)
 
@@ -38,7 +38,7 @@ module _ (u : Unit) (w : Sound u) where
   unfolding giveBack takes refuses returned
   sound-back t =
       pick-elim (λ (o : Outcome). Sound (o .unit)) (u .rented && eqb t (u .last)) _ _
-      (λ _. record { tenancy = λ h. absurd (let z : _≡_ {A = ℕ} 0 1 = cc in omega arith); cleared = λ _. refl; filled = none-filled })
+      (λ _. record { tenancy = λ h. absurd (let z : _≡_ {A = ℕ} 0 1 = cc in omega arith); cleared = λ _. refl; proper = none-proper })
       (λ _. w)
 
   -- what a settings sheet said, whatever it was
@@ -49,7 +49,7 @@ module _ (u : Unit) (w : Sound u) where
       record {
         tenancy = w .tenancy;
         cleared = λ f. absurd (omega (arith, tenancy-free u f, accepted-tenancy (u .number) (tenancyOf u) s T e h));
-        filled = accepted-filled (u .number) (tenancyOf u) s T e h .0;
+        proper = accepted-proper (u .number) (tenancyOf u) s T e h .0;
       }
 
   pub sound-set : (s : List ℕ) → Sound (set u s .unit)

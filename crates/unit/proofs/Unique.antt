@@ -3,30 +3,30 @@ use mathlib.Core.Path.{_≡_, refl, sym, ap, _∙_}
 use mathlib.Core.List.{List}
 use Prim.Native.Nat.{ℕ}
 use Rattle.field.specs.Refusal.{numberOf}
+use Rattle.field.specs.declared.Verdict.{Verdict}
+use Rattle.field.specs.declared.Verdict.the-variants.{Accepted, Refused}
 use Rattle.field.proofs.Unique.{number-injective}
 use Rattle.planner.proofs.Unique.{plan-into-unique}
-use Rattle.unit.specs.declared.Answer.{Answer}
-use Rattle.unit.specs.declared.Answer.the-variants.{Accepted, Refused}
 use Rattle.unit.specs.declared.Done.{Done}
 use Rattle.unit.specs.declared.Requested.{Requested}
 use Rattle.unit.specs.declared.Unit.{Unit as Shelf}
 use Rattle.unit.specs.Life.{Outcome}
 use Rattle.unit.specs.Request.{Replied}
-use Rattle.unit.specs.Told.{toldAnswer, told}
+use Rattle.unit.specs.Told.{toldVerdict, told}
 use Rattle.unit.specs.Unit.{newUnit, tenancyOf}
 
-answer-injective : (a b : Answer) → toldAnswer a ≡ toldAnswer b → a ≡ b
-unfolding toldAnswer
-answer-injective Accepted Accepted h = refl
-answer-injective Accepted (Refused e) h = cc
-answer-injective (Refused e) Accepted h = cc
-answer-injective (Refused e) (Refused f) h = let n : numberOf e ≡ numberOf f = cc in ap Refused (number-injective e f n)
+told-injective : (a b : Verdict) → toldVerdict a ≡ toldVerdict b → a ≡ b
+unfolding toldVerdict
+told-injective Accepted Accepted h = refl
+told-injective Accepted (Refused e) h = cc
+told-injective (Refused e) Accepted h = cc
+told-injective (Refused e) (Refused f) h = let n : numberOf e ≡ numberOf f = cc in ap Refused (number-injective e f n)
 
 -- `rent`, `settings` and `give_back`: whatever the definition says, one answer with one unit says it
 pub done-unique : (o : Outcome) (a b : Done) → told a ≡ o → told b ≡ o → a ≡ b
 unfolding told
 done-unique o a b p q =
-    let e : a .answer ≡ b .answer = answer-injective (a .answer) (b .answer) (ap (λ (x : Outcome). x .verdict) (p ∙ sym q)) in
+    let e : a .answer ≡ b .answer = told-injective (a .answer) (b .answer) (ap (λ (x : Outcome). x .verdict) (p ∙ sym q)) in
     let u : a .unit ≡ b .unit = ap (λ (x : Outcome). x .unit) (p ∙ sym q) in
     ap {B = Done} (λ x. record { answer = x; unit = a .unit }) e ∙ ap {B = Done} (λ x. record { answer = b .answer; unit = x }) u
 

@@ -1,5 +1,6 @@
 // The unit's life: each call takes the unit and hands the unit back.
 use field::Refusal;
+use field::Verdict;
 use field::Written;
 use settings::Table;
 ghost use mathlib.Core.Path.{_≡_};
@@ -17,14 +18,9 @@ pub struct Unit {
     table: Table,
 }
 
-pub enum Answer {
-    Accepted,
-    Refused(Refusal),
-}
-
 // What a call answers, with the unit afterwards.
 pub struct Done {
-    pub answer: Answer,
+    pub answer: Verdict,
     pub unit: Unit,
 }
 
@@ -67,13 +63,13 @@ impl Unit {
     {
         if self.rented {
             return Done {
-                answer: Answer::Refused(Refusal::Rented),
+                answer: Verdict::Refused(Refusal::Rented),
                 unit: self,
             };
         }
         if tenancy <= self.last {
             return Done {
-                answer: Answer::Refused(Refusal::NotAbove),
+                answer: Verdict::Refused(Refusal::NotAbove),
                 unit: self,
             };
         }
@@ -81,7 +77,7 @@ impl Unit {
         self.rented = true;
         self.table = settings::empty();
         Done {
-            answer: Answer::Accepted,
+            answer: Verdict::Accepted,
             unit: self,
         }
     }
@@ -102,16 +98,16 @@ impl Unit {
         let said = settings::read(sheet, number, self.tenancy());
         let answer = said.answer;
         match answer {
-            field::Verdict::Accepted => {
+            Verdict::Accepted => {
                 let table = said.table;
                 self = self.with_table(table);
                 Done {
-                    answer: Answer::Accepted,
+                    answer: Verdict::Accepted,
                     unit: self,
                 }
             }
-            field::Verdict::Refused(e) => Done {
-                answer: Answer::Refused(e),
+            Verdict::Refused(e) => Done {
+                answer: Verdict::Refused(e),
                 unit: self,
             },
         }
@@ -126,13 +122,13 @@ impl Unit {
                 self.rented = false;
                 self.table = settings::empty();
                 return Done {
-                    answer: Answer::Accepted,
+                    answer: Verdict::Accepted,
                     unit: self,
                 };
             }
         }
         Done {
-            answer: Answer::Refused(Refusal::NotTheTenant),
+            answer: Verdict::Refused(Refusal::NotTheTenant),
             unit: self,
         }
     }

@@ -1,18 +1,15 @@
 -- The engine on the figure P5, where all three blocks are short as well: the short set is block 0 alone.
-use Prim.Native.Nat.{ℕ, zero, suc, _+_, _≤_, _<_}
-use mathlib.Core.Bool.{Bool, or-false}
+use Prim.Native.Nat.{ℕ, zero, suc, _+_, _≤_}
+use mathlib.Core.Bool.{Bool}
 use mathlib.Core.List.{List, [], _∷_}
 use mathlib.Core.Path.{_≡_, refl, ap₂, fun-ext, subst}
 use native.Mathlib.Omega.{arith}
-use lib.Dec.{eqb}
 use lib.ListN.{getD}
 use Rattle.model.specs.Case.{Case, base}
-use Rattle.basics.specs.Count.{any}
-use Rattle.basics.specs.Lists.{listed}
+use Rattle.basics.specs.Lists.{Rises, listed}
 use Rattle.model.specs.Figures.{asked}
 use Rattle.model.specs.Plan.{Optimal}
 use Rattle.engine.specs.Planned.{Planned}
-use Rattle.engine.specs.Planned.{listed as listedFirst}
 use Rattle.engine.specs.Spelled.{spelled}
 use Rattle.vectors.proofs.Figures.{join, same-copies, copies-p5, P5}
 
@@ -51,29 +48,27 @@ same-case =
     ap₂ (λ (s : ℕ → ℕ) (h : ℕ → ℕ → Bool). record { disks = 3; blocks = 3; start = s; cost = λ d. getD costs d 0; copy = h })
     (fun-ext same-starts) (fun-ext (λ b. fun-ext (same-copies copies-p5 b)))
 
-same-set : (b : ℕ) → listed (0 ∷ []) b ≡ listedFirst short 1 b
-unfolding listed listedFirst any
-same-set b = or-false (eqb 0 b)
-
 -- ---- plan
 
 -- R is 10, the disks are 2 0 0, the short set is block 0; its buffer is as it was beyond that
 pub plan-p5 : Planned copies costs starts blank blank (2 ∷ 0 ∷ 0 ∷ []) (0 ∷ 99 ∷ 99 ∷ []) (record { time = 10; size = 1 })
+unfolding Rises
 plan-p5 =
     record {
       plan =
-          subst (λ (m : Case). Optimal m 10 (λ b. getD disks b 0) (listedFirst short 1)) same-case
-          (subst (λ (S : ℕ → Bool). Optimal (asked copies-p5) 10 (λ b. getD disks b 0) S) (fun-ext same-set) P5);
-      set = record { few = omega arith; below = below; rising = λ i j h l. absurd (omega arith); short-rest = rest; short-long = refl };
+          subst (λ (m : Case). Optimal m 10 (λ b. getD disks b 0) (listed (0 ∷ []))) same-case P5;
+      set = record {
+        few = omega arith;
+        fits = omega arith;
+        rises = (omega arith, omega arith, tt);
+        short-rest = rest;
+        short-long = refl;
+      };
       disks-rest = none;
       disks-long = refl;
       time-most = omega arith;
     }
   where
-    below : (i : ℕ) → i < 1 → getD short i 0 < 3
-    below zero h = omega arith
-    below (suc i) h = absurd (omega arith)
-
     rest : (i : ℕ) → 1 ≤ i → getD short i 0 ≡ getD blank i 0
     rest zero h = absurd (omega arith)
     rest (suc i) h = refl

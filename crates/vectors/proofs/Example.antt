@@ -11,8 +11,8 @@ use Rattle.model.specs.Plan.{Optimal}
 use Rattle.field.specs.declared.Written.the-variants.{Length}
 use Rattle.basics.specs.Lists.{All, Rises, listed}
 use Rattle.field.specs.Sheet.{got, refused}
-use Rattle.settings.specs.Table.{table, disksOf, costs}
-use Rattle.planner.specs.Asked.{startOf, caseOf, PlanFor}
+use Rattle.settings.specs.Table.{table, diskRows, costs}
+use Rattle.planner.specs.Asked.{startOf, tableCase, PlanFor}
 use Rattle.unit.specs.Request.{Replied}
 use Rattle.console.specs.Bench.{benchInput, Line}
 use Rattle.hire.specs.Calls.{planned}
@@ -36,8 +36,8 @@ same-start (suc (suc zero)) = refl
 same-start (suc (suc (suc d))) = refl
 
 -- the settings and the request are the case of P6
-same-case : asked copies-p6 ≡ caseOf (table 3 three) copies
-unfolding unit-opened asked caseOf startOf disksOf costs base join
+same-case : asked copies-p6 ≡ tableCase (table 3 three) copies
+unfolding unit-opened asked tableCase startOf diskRows costs base join
 same-case =
     ap₂ {C = Case}
     (λ (start : ℕ → ℕ) (copy : ℕ → ℕ → Bool). record
@@ -45,8 +45,8 @@ same-case =
     (fun-ext same-start) (fun-ext (λ b. fun-ext (same-copies copies-p6 b)))
 
 -- R is 9, the disks are 0 0 1 1, the short set is 0 1 2 3
-plan-example : PlanFor (caseOf (table 3 three) copies) plan
-unfolding unit-opened plan-opened caseOf All Rises
+plan-example : PlanFor (tableCase (table 3 three) copies) plan
+unfolding unit-opened plan-opened tableCase All Rises
 plan-example =
     record {
       range = record {

@@ -13,3 +13,4 @@ mod Figures
 mod Example
 mod Engine
 mod RuledOut
+mod WrongFigures

@@ -11,29 +11,30 @@ use Rattle.field.specs.Send.{toldWritten, answerTo, leftBy}
 use Rattle.settings.specs.Draft.{rowsOf, headingBytes as settingsHeadingBytes, sheetBytes, listsFit, settingsDraft}
 use Rattle.settings.specs.Row.{row, inRange, allInRange, rowBytes}
 use Rattle.settings.specs.Sheet.{heading as settingsHeading, body as settingsBody, fields, settingsSheet}
-use Rattle.settings.specs.Table.{padded, table, noTable}
+use Rattle.basics.specs.Padded.{padTo}
+use Rattle.settings.specs.Table.{table, noTable}
 use Rattle.settings.specs.Told.{tableOf}
 use Rattle.mask.specs.Has.{has}
-use Rattle.mask.specs.Count.{bit, members}
+use Rattle.basics.specs.Count.{bit, sum, count}
 use Rattle.request.specs.Disks.{maskOf, disksBelow, disksOf}
 use Rattle.request.specs.Draft.{blockBytes, headingBytes, requestBytes, checked, requestDraft}
 use Rattle.request.specs.Request.{lastDisk, block, heading, requestSheet}
 use Rattle.plan.specs.Draft.{planNumbers, planBytes, planDraft, counted as countedPlan}
 use Rattle.plan.specs.Plan.{ifAny, timeOf, sizeOf, listsOf, planFields, planSheet}
-use Rattle.plan.specs.Receive.{roomFor, settle, heads, disksLeft, shortLeft}
+use Rattle.plan.specs.Receive.{roomFor, ifRoom, heads, disksLeft, shortLeft}
 use Rattle.plan.specs.Told.{toldPlan}
 use Rattle.unit.specs.Life.{takes, refuses, rent, settled, set, giveBack}
 use Rattle.planner.specs.Answered.{draftOf}
 use Rattle.planner.specs.Asked.{caseIn, Plans, asked as askedCase}
 use Rattle.unit.specs.Unit.{newUnit, tenancyOf, tenanted, returned}
-use Rattle.desk.specs.Desk.{settingsDraftOfBytes, requestDraftOfBytes, planOf, setLeft}
+use Rattle.desk.specs.Desk.{settingsDraftOfBytes, requestDraftOfBytes, planIfRoom, setLeft}
 use Rattle.lent.specs.Numbers.{valueOf, bytesOf, firstNumbers, numbers, broken}
 use Rattle.lent.specs.Packed.{packPlan, readerAnswer}
 use Rattle.line.specs.Text.{digit, digitsBy, decimal, spaced, pair, hex}
 use Rattle.line.specs.Line.{feed, word-returned, word-refused, word-stopped, word-plan, bar, spoken, planText, planLine, sheetLine}
 use Rattle.stream.specs.Frame.{sheet, bytes as framed}
 use Rattle.stream.specs.Call.{ofTenancy, ofSettings, ofRequest, none, behind, asked}
-use Rattle.console.specs.Bench.{judge, accept, close, hire, benchInput, answerLine as benchLine, Line, settle as settleInput}
+use Rattle.console.specs.Bench.{judge, accept, close, hire, benchInput, answerLine as benchLine, Line, apply as applyInput}
 use Rattle.hire.specs.Calls.{Comes as Came, sent, Does}
 use Rattle.service.specs.Shelf.{due, shelfOf, callOf, acceptedLine, lineOf, Serves, lastLine, waits, Comes}
 use Rattle.vectors.specs.Text.{bytes, digit as hexDigit}
@@ -51,19 +52,19 @@ field-opened = Unit
 unfoldable pub settings-opened : Type 0
 unfolding
     field-opened rowsOf settingsHeadingBytes sheetBytes listsFit settingsDraft row inRange allInRange rowBytes
-    settingsHeading settingsBody fields settingsSheet padded table noTable tableOf
+    settingsHeading settingsBody fields settingsSheet padTo table noTable tableOf
 settings-opened = Unit
 
 unfoldable pub request-opened : Type 0
 unfolding
-    field-opened has bit members maskOf disksBelow disksOf blockBytes headingBytes requestBytes checked requestDraft
+    field-opened has bit sum count maskOf disksBelow disksOf blockBytes headingBytes requestBytes checked requestDraft
     lastDisk block heading requestSheet
 request-opened = Unit
 
 unfoldable pub plan-opened : Type 0
 unfolding
     field-opened planNumbers planBytes countedPlan planDraft ifAny timeOf sizeOf listsOf planFields planSheet
-    roomFor settle heads over disksLeft shortLeft toldPlan
+    roomFor ifRoom heads over disksLeft shortLeft toldPlan
 plan-opened = Unit
 
 unfoldable pub unit-opened : Type 0
@@ -74,7 +75,7 @@ unit-opened = Unit
 
 unfoldable pub desk-opened : Type 0
 unfolding
-    settings-opened request-opened plan-opened settingsDraftOfBytes requestDraftOfBytes planOf setLeft
+    settings-opened request-opened plan-opened settingsDraftOfBytes requestDraftOfBytes planIfRoom setLeft
     valueOf bytesOf firstNumbers numbers broken packPlan readerAnswer
 desk-opened = Unit
 
@@ -90,6 +91,6 @@ stream-opened = Unit
 
 unfoldable pub program-opened : Type 0
 unfolding
-    unit-opened line-opened stream-opened judge accept close hire settleInput benchInput benchLine Line
+    unit-opened line-opened stream-opened judge accept close hire applyInput benchInput benchLine Line
     Came sent Does due shelfOf callOf acceptedLine lineOf Serves lastLine waits Comes
 program-opened = Unit

@@ -6,19 +6,29 @@ use Rattle.console.proofs.bench.Statement.{statement}
 use Rattle.console.proofs.bench.Tie as tie
 
 returns : tie.Need-returns
-returns c = tells-same
+returns c =
+    let at-tenancy = c .before .before .before in
+    let at-number3 = at-tenancy .before .before in
+    let at-number2 = at-number3 .before .before in
+    let at-number = at-number2 .before .before in
+    tells-same
     (input-hires _ _ _ _ _
-    (told-got (c .before .before .before .before .before .before .before .before .before .number .ensures)
-    (c .before .before .before .before .before .before .before .number2 .given .1))
-    (told-got (c .before .before .before .before .before .number3 .ensures) (c .before .before .before .tenancy .given .1)))
+    (told-got (at-number .number .ensures)
+    (at-number2 .number2 .given .1))
+    (told-got (at-number3 .number3 .ensures) (at-tenancy .tenancy .given .1)))
     (c .hire .ensures)
 
 returns-2 : tie.Need-returns-2
-returns-2 c = tells-refused (c .before .before .before .e .given .0 .0)
+returns-2 c =
+    let at-e = c .before .before .before in
+    let at-number3 = at-e .before .before in
+    let at-number2 = at-number3 .before .before in
+    let at-number = at-number2 .before .before in
+    tells-refused (at-e .e .given .0 .0)
     (input-no-tenancy _ _ _ _
-    (told-got (c .before .before .before .before .before .before .before .before .before .number .ensures)
-    (c .before .before .before .before .before .before .before .number2 .given .1))
-    (told-refused (c .before .before .before .before .before .number3 .ensures) (c .before .before .before .e .given .1)))
+    (told-got (at-number .number .ensures)
+    (at-number2 .number2 .given .1))
+    (told-refused (at-number3 .number3 .ensures) (at-e .e .given .1)))
     (c .refuse .ensures)
 
 returns-3 : tie.Need-returns-3

@@ -5,7 +5,6 @@ use Rattle.field.specs.declared.Refusal.the-variants.{BytesFollow}
 use Rattle.console.proofs.Benching.{close-asks, close-extra, close-stops, tells-refused}
 use Rattle.stream.proofs.Framing.{spans-part, spans-refused}
 use Rattle.stream.specs.Frame.{part}
-use Rattle.field.specs.Refusal.{numberOf}
 use Rattle.console.proofs.close.Statement.{statement}
 use Rattle.console.proofs.close.Tie as tie
 
@@ -20,14 +19,21 @@ part-ask-end c = spans-part (c .before .before .before .before .sheet .ensures) 
 
 returns : tie.Need-returns
 unfolding part
-returns c = close-asks _ _ _ _ _
-    (spans-part (c .before .before .before .before .before .before .before .sheet .ensures)
-    (c .before .before .before .before .before .from .given .1) .0) (c .before .before .before .if1 .taken) (c .ask .ensures)
+returns c =
+    let at-if1 = c .before .before .before in
+    let at-from = at-if1 .before .before in
+    let at-sheet = at-from .before .before in
+    close-asks _ _ _ _ _
+    (spans-part (at-sheet .sheet .ensures)
+    (at-from .from .given .1) .0) (at-if1 .if1 .taken) (c .ask .ensures)
 
 returns-2 : tie.Need-returns-2
-returns-2 c = tells-refused BytesFollow
+returns-2 c =
+    let at-from = c .before .before .before .before in
+    let at-sheet = at-from .before .before in
+    tells-refused BytesFollow
     (close-extra _ _ _ _ _
-    (spans-part (c .before .before .before .before .before .before .sheet .ensures) (c .before .before .before .before .from .given .1) .0)
+    (spans-part (at-sheet .sheet .ensures) (at-from .from .given .1) .0)
     (c .before .before .if1 .left)) (c .refuse .ensures)
 
 returns-3 : tie.Need-returns-3

@@ -10,30 +10,44 @@ use Rattle.console.proofs.hire.Tie as tie
 enum-told : tie.Need-enum-told
 enum-told c = search needs
 
-settle-requires : tie.Need-settle-requires
-settle-requires c κs = rented-new (c .before .before .before .before .before .before .before .args .number)
-    (c .before .before .before .before .before .before .before .args .tenancy) _ (c .before .before .before .before .rent .ensures
-    ∙ ap (λ (u : Unit). rent u (c .before .before .before .before .before .before .before .args .tenancy))
-    (c .before .before .before .before .before .new .ensures)) (c .before .before .enum-told .given .1)
+apply-requires : tie.Need-apply-requires
+apply-requires c κs =
+    let at-rent = c .before .before .before .before in
+    let at-new = at-rent .before in
+    let at-start = at-new .before .before in
+    rented-new (at-start .args .number)
+    (at-start .args .tenancy) _ (at-rent .rent .ensures
+    ∙ ap (λ (u : Unit). rent u (at-start .args .tenancy))
+    (at-new .new .ensures)) (c .before .before .enum-told .given .1)
 
 returns : tie.Need-returns
-returns c = tells-same
-    (hire-taken (c .before .before .before .before .before .before .before .before .args .number)
-    (c .before .before .before .before .before .before .before .before .args .tenancy) _ _ _
-    (c .before .before .before .before .before .rent .ensures
-    ∙ ap (λ (u : Unit). rent u (c .before .before .before .before .before .before .before .before .args .tenancy))
-    (c .before .before .before .before .before .before .new .ensures)) (c .before .before .before .enum-told .given .1))
-    (c .settle .ensures)
+returns c =
+    let at-enum-told = c .before .before .before in
+    let at-rent = at-enum-told .before .before in
+    let at-new = at-rent .before in
+    let at-start = at-new .before .before in
+    tells-same
+    (hire-taken (at-start .args .number)
+    (at-start .args .tenancy) _ _ _
+    (at-rent .rent .ensures
+    ∙ ap (λ (u : Unit). rent u (at-start .args .tenancy))
+    (at-new .new .ensures)) (at-enum-told .enum-told .given .1))
+    (c .apply .ensures)
 
 returns-2 : tie.Need-returns-2
-returns-2 c = tells-refused (c .before .before .before .verdict .given .0 .0)
-    (hire-denied (c .before .before .before .before .before .before .before .before .args .number)
-    (c .before .before .before .before .before .before .before .before .args .tenancy)
-    (c .before .before .before .before .before .before .before .before .args .input .now)
-    (c .before .before .before .before .before .before .before .before .args .at) (c .before .before .before .before .before .rent .result)
-    (c .before .before .before .before .before .rent .ensures
-    ∙ ap (λ (u : Unit). rent u (c .before .before .before .before .before .before .before .before .args .tenancy))
-    (c .before .before .before .before .before .before .new .ensures)) _ (c .before .before .before .verdict .given .1))
+returns-2 c =
+    let at-verdict = c .before .before .before in
+    let at-rent = at-verdict .before .before in
+    let at-new = at-rent .before in
+    let at-start = at-new .before .before in
+    tells-refused (at-verdict .verdict .given .0 .0)
+    (hire-denied (at-start .args .number)
+    (at-start .args .tenancy)
+    (at-start .args .input .now)
+    (at-start .args .at) (at-rent .rent .result)
+    (at-rent .rent .ensures
+    ∙ ap (λ (u : Unit). rent u (at-start .args .tenancy))
+    (at-new .new .ensures)) _ (at-verdict .verdict .given .1))
     (c .refuse .ensures)
 
 pub hire-spec : {M : Type 1} → statement M
@@ -43,7 +57,7 @@ hire-spec =
     (λ c κs. search needs)
     (λ c κs. search needs)
     enum-told
-    settle-requires
+    apply-requires
     (λ c. search needs)
     (λ c κs. search needs)
     returns

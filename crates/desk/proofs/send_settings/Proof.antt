@@ -15,10 +15,14 @@ slice-aggregate-write-3 : tie.Need-slice-aggregate-write-3
 slice-aggregate-write-3 c = part-count 4 _ _ _ (c .before .before .before .fours3 .ensures)
 
 returns : tie.Need-returns
-returns c = settings-sent _ _
-    (part-numbers 4 _ _ _ (c .before .before .before .before .before .before .before .before .before .fours .ensures))
-    (part-numbers 4 _ _ _ (c .before .before .before .before .before .before .before .before .fours2 .ensures))
-    (part-numbers 4 _ _ _ (c .before .before .before .before .before .before .before .fours3 .ensures)) (c .before .before .write .ensures)
+returns c =
+    let at-fours3 = c .before .before .before .before .before .before .before in
+    let at-fours2 = at-fours3 .before in
+    let at-fours = at-fours2 .before in
+    settings-sent _ _
+    (part-numbers 4 _ _ _ (at-fours .fours .ensures))
+    (part-numbers 4 _ _ _ (at-fours2 .fours2 .ensures))
+    (part-numbers 4 _ _ _ (at-fours3 .fours3 .ensures)) (c .before .before .write .ensures)
 
 pub send-settings-spec : {M : Type 1} → statement M
 send-settings-spec =

@@ -4,9 +4,10 @@ use mathlib.Core.Path.{_≡_}
 use mathlib.Core.Logic.{⊎-elim}
 use Rattle.places.specs.Among.{among}
 use Rattle.places.proofs.Among.{inside-true, inside-false}
-use Rattle.engine.proofs.Lists.{Listing, listing-start, listing-put, listing-skip}
+use Rattle.engine.proofs.Lists.{Listing, listing-start, listing-put, listing-skip, listing-front, listing-same}
 use borrow.Author.Needs.{needs}
 use native.Mathlib.Omega.{arith}
+use lib.ListN.{length}
 use Rattle.engine.proofs.list_among.Statement.{statement}
 use Rattle.engine.proofs.list_among.Tie as tie
 
@@ -22,8 +23,8 @@ loop-holds c = (omega arith, listing-start (among (c .before .args .masks .now) 
 slice-write-short : tie.Need-slice-write-short Inv-loop μ-loop
 slice-write-short c =
     let k = c .before .before .before .before in
-    let g = k .loop .inv .1 .set in
-    omega (arith, g .few, g .short-long, k .before .before .pre .1)
+    let i = k .loop .inv .1 in
+    omega (arith, i .few, i .long, k .before .before .pre .1)
 
 loop-again : tie.Need-loop-again Inv-loop μ-loop
 loop-again c =
@@ -34,19 +35,21 @@ loop-again c =
       ⊎-elim
           (λ v. rw (v .1, v .2)
           (listing-put i (inside-true _ _ (w .result) (w .ensures) (v .0 .taken))
-          (omega (arith, i .set .few, i .set .short-long, k .before .before .pre .1))))
+          (omega (arith, i .few, i .long, k .before .before .pre .1))))
           (λ v. rw (v .1, v .2) (listing-skip i (inside-false _ _ (w .result) (w .ensures) (omega (arith, w .ok)) (v .0 .left))))
           (c .if1 .came),
     )
 
 same-length : tie.Need-same-length Inv-loop μ-loop
-same-length c = c .before .loop .inv .1 .set .short-long
+same-length c = c .before .loop .inv .1 .long
 
 returns : tie.Need-returns Inv-loop μ-loop
 returns c =
     let l = c .before .loop in
-    let e : l .b ≡ c .before .before .before .args .q = omega arith in
-    rw (← e) (record { set = l .inv .1 .set; same = l .inv .1 .same })
+    let began = c .before .before .before in
+    let e : l .b ≡ began .args .q = omega arith in
+    let room : l .b ≤ length (began .args .short .now) = omega (arith, e, began .pre .1) in
+    rw (← e) (record { set = listing-front (l .inv .1) room; same = listing-same (l .inv .1) room })
 
 pub list-among-spec : {M : Type 1} → statement M
 list-among-spec =
@@ -59,9 +62,9 @@ list-among-spec =
     (λ c. search needs)
     (λ c κs. search needs)
     (λ c. search needs)
-    (λ c. omega (arith, c .before .before .before .before .loop .inv .1 .set .few))
+    (λ c. omega (arith, c .before .before .before .before .loop .inv .1 .few))
     slice-write-short
-    (λ c. omega (arith, c .before .before .before .before .loop .inv .1 .set .few))
+    (λ c. omega (arith, c .before .before .before .before .loop .inv .1 .few))
     (λ c. search needs)
     (λ c. search needs)
     loop-again

@@ -9,11 +9,11 @@ use Rattle.fill.proofs.place_all.Statement.{statement}
 use Rattle.fill.proofs.place_all.Tie as tie
 
 abbrev Inv-loop : tie.InvT-loop
-Inv-loop n q masks caps seats₀ counts₀ next₀ prev₀ out₀ by₀ tried₀ b₀ seats counts next prev out by tried b =
-    (b ≤ q) × Ground n q b masks caps seats counts next prev out by (tried .room) (tried .closed)
+Inv-loop n q masks caps seats₀ counts₀ next₀ prev₀ out₀ by₀ known₀ b₀ seats counts next prev out by known b =
+    (b ≤ q) × Ground n q b masks caps seats counts next prev out by (known .room) (known .closed)
 
 abbrev μ-loop : tie.MeasureT-loop
-μ-loop n q masks caps seats₀ counts₀ next₀ prev₀ out₀ by₀ tried₀ b₀ seats counts next prev out by tried b = q - b
+μ-loop n q masks caps seats₀ counts₀ next₀ prev₀ out₀ by₀ known₀ b₀ seats counts next prev out by known b = q - b
 
 cast-if1 : tie.Need-cast-if1 Inv-loop μ-loop
 cast-if1 c =

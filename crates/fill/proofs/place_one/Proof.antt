@@ -12,7 +12,7 @@ reopen-requires c κs =
     let i = c .before .before .before .before in
     let s = i .before .before .before .before .before .before .before in
     let g = s .pre .0 in
-    let room = s .args .tried .room in
+    let room = s .args .known .room in
     let w = rw (c .before .before .hit .given .1) at (i .improve .ensures) in (
       g .seated .placed .disks,
       open-but room (g .opened)

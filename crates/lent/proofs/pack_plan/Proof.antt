@@ -24,7 +24,7 @@ returns : tie.Need-returns
 returns c = packed-head (c .before .before .a .given .1)
 
 returns-2 : tie.Need-returns-2
-returns-2 c = packed-not (c .before .before .a2 .given .1) (c .number-of .ensures)
+returns-2 c = packed-not (c .before .before .a2 .given .1) (c .refuse .ensures)
 
 pub pack-plan-spec : {M : Type 1} → statement M
 pack-plan-spec =
@@ -39,6 +39,5 @@ pack-plan-spec =
     add-result-2
     (λ c. search needs)
     (λ c κs. search needs)
-    (λ c. search needs)
     returns
     returns-2)

@@ -12,9 +12,9 @@ returns : tie.Need-returns
 returns c = packed-length (c .before .w .given .1)
 
 returns-2 : tie.Need-returns-2
-returns-2 c = packed-refusal (c .before .before .w2 .given .1) (c .number-of .ensures)
+returns-2 c = packed-refusal (c .before .before .w2 .given .1) (c .refuse .ensures)
 
 pub pack-written-spec : {M : Type 1} → statement M
 pack-written-spec =
     tie.close
-    (tie.spec (λ c. search needs) mul-result (λ c. search needs) (λ c κs. search needs) (λ c. search needs) returns returns-2)
+    (tie.spec (λ c. search needs) mul-result (λ c. search needs) (λ c κs. search needs) returns returns-2)

@@ -7,8 +7,11 @@ use Rattle.line.proofs.numbered.Tie as tie
 
 returns : tie.Need-returns
 unfolding feed
-returns c = adds-join (c .before .before .before .before .before .before .before .before .before .before .put-text .ensures)
-    (adds-join (c .before .before .before .before .before .before .put-spaced .ensures) (c .before .before .put-byte .ensures))
+returns c =
+    let at-put-spaced = c .before .before .before .before .before .before in
+    let at-put-text = at-put-spaced .before .before .before .before in
+    adds-join (at-put-text .put-text .ensures)
+    (adds-join (at-put-spaced .put-spaced .ensures) (c .before .before .put-byte .ensures))
 
 pub numbered-spec : {M : Type 1} → statement M
 numbered-spec =

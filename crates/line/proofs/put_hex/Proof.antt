@@ -3,7 +3,7 @@ use borrow.Author.Needs.{needs}
 use native.Mathlib.Omega.{arith}
 use Rattle.line.proofs.Adding.{adds-at, adds-start, adds-full, adds-whole, adds-pair, hex-length}
 use Rattle.line.specs.Text.{pair, hex}
-use Rattle.line.specs.Printed.{Adds}
+use Rattle.line.specs.Parts.{Adds}
 use Rattle.field.specs.Put.{spellAll}
 use lib.ListN.{length, take, length-set}
 use Prim.Native.Nat.{_+_, _*_, _-_, _≤_}
@@ -46,12 +46,16 @@ slice-write-out-2 c =
 
 loop-again : tie.Need-loop-again Inv-loop μ-loop
 loop-again c =
-    let l = c .before .before .before .before .loop in
-    let a = c .before .before .before .before .before .before .before .before .before .args in (
+    let at-loop-test = c .before .before .before in
+    let at-loop = at-loop-test .before in
+    let at-if2 = at-loop .before in
+    let at-start = at-if2 .before .before .before .before in
+    let l = at-loop .loop in
+    let a = at-start .args in (
       omega arith,
       adds-at (omega arith)
-          (adds-pair (a .xs .now) (c .before .before .before .loop-test .taken)
-          (omega (arith, l .inv .2, c .before .before .before .before .before .if2 .left))
+          (adds-pair (a .xs .now) (at-loop-test .loop-test .taken)
+          (omega (arith, l .inv .2, at-if2 .if2 .left))
           (c .before .digit .ensures) (c .digit2 .ensures) (l .inv .1)),
       simp length-set (l .inv .2),
     )
@@ -59,7 +63,8 @@ loop-again c =
 returns-3 : tie.Need-returns-3 Inv-loop μ-loop
 unfolding hex
 returns-3 c =
-    let a = c .before .before .before .before .before .before .args in
+    let at-start = c .before .before .before .before .before .before in
+    let a = at-start .args in
     let l = c .before .loop in
     let e : l .i ≡ length (a .xs .now) = omega (arith, l .inv .0) in
     adds-whole pair (a .xs .now) (l .i) e (adds-at (omega arith) (l .inv .1))

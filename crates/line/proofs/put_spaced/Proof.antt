@@ -7,7 +7,9 @@ use Rattle.line.proofs.put_spaced.Tie as tie
 
 returns : tie.Need-returns
 unfolding spaced
-returns c = adds-join (c .before .before .before .before .before .before .put-byte .ensures) (c .before .before .put-decimal .ensures)
+returns c =
+    let at-put-byte = c .before .before .before .before .before .before in
+    adds-join (at-put-byte .put-byte .ensures) (c .before .before .put-decimal .ensures)
 
 pub put-spaced-spec : {M : Type 1} → statement M
 put-spaced-spec =

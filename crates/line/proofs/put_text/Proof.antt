@@ -2,7 +2,7 @@
 use borrow.Author.Needs.{needs}
 use native.Mathlib.Omega.{arith}
 use Rattle.line.proofs.Adding.{adds-none, adds-next, adds-whole, adds-same, spell-bytes}
-use Rattle.line.specs.Printed.{Adds}
+use Rattle.line.specs.Parts.{Adds}
 use Rattle.field.specs.Put.{spellAll}
 use lib.ListN.{length, take}
 use Prim.Native.Nat.{_-_, _≤_}
@@ -23,13 +23,15 @@ unfolding spellAll
 loop-holds c = (omega arith, adds-none _ _, refl)
 
 loop-again : tie.Need-loop-again Inv-loop μ-loop
-loop-again c = (
-  omega arith,
-  adds-next _ (c .before .before .before .before .before .before .before .before .before .args .text .now)
-      (c .before .before .before .before .before .before .loop .i) (omega arith)
-      (c .before .before .before .before .before .before .loop .inv .1) (c .before .before .put-byte .ensures),
-  search needs,
-)
+loop-again c =
+    let at-loop = c .before .before .before .before .before .before in
+    let at-start = at-loop .before .before .before in (
+      omega arith,
+      adds-next _ (at-start .args .text .now)
+          (at-loop .loop .i) (omega arith)
+          (at-loop .loop .inv .1) (c .before .before .put-byte .ensures),
+      search needs,
+    )
 
 returns : tie.Need-returns Inv-loop μ-loop
 returns c = adds-same (spell-bytes _)

@@ -9,8 +9,11 @@ returns : tie.Need-returns
 returns c = long-sheet _ _ (c .if1 .taken)
 
 returns-2 : tie.Need-returns-2
-returns-2 c = sheet-printed _ _ (c .before .before .before .before .before .before .before .if1 .left) (omega arith)
-    (c .before .before .before .before .put-text .ensures) (c .before .before .put-hex .ensures) (c .put-byte .ensures)
+returns-2 c =
+    let at-put-text = c .before .before .before .before in
+    let at-if1 = at-put-text .before .before .before in
+    sheet-printed _ _ (at-if1 .if1 .left) (omega arith)
+    (at-put-text .put-text .ensures) (c .before .before .put-hex .ensures) (c .put-byte .ensures)
 
 pub sheet-line-spec : {M : Type 1} → statement M
 sheet-line-spec =

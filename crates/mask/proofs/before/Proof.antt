@@ -3,6 +3,7 @@ use mathlib.Core.Path.{sym, ap, subst, _∙_}
 use Prim.Native.Nat.{ℕ, _-_, _≤_}
 use lib.Pow.{pow-pos}
 use borrow.Author.Needs.{needs}
+use Rattle.basics.specs.Limits.{disksMost}
 use Rattle.mask.specs.Has.{has}
 use Rattle.mask.proofs.Bits.{shl-one, has-ones}
 use Rattle.mask.proofs.before.Statement.{statement}
@@ -13,5 +14,5 @@ before-spec =
     tie.close
     (tie.spec
     (λ c. search needs)
-    (λ c. subst (λ (x : ℕ). 1 ≤ x) (sym (shl-one 64 (c .args .d) (c .pre))) (pow-pos (c .args .d)))
-    (λ c e. ap (λ (x : ℕ). has (x - 1) e) (shl-one 64 (c .args .d) (c .pre)) ∙ has-ones (c .args .d) e))
+    (λ c. subst (λ (x : ℕ). 1 ≤ x) (sym (shl-one disksMost (c .args .d) (c .pre))) (pow-pos (c .args .d)))
+    (λ c e. ap (λ (x : ℕ). has (x - 1) e) (shl-one disksMost (c .args .d) (c .pre)) ∙ has-ones (c .args .d) e))

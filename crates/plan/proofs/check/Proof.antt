@@ -12,37 +12,58 @@ use Rattle.plan.proofs.check.Tie as tie
 lists-requires : tie.Need-lists-requires
 unfolding Bytes
 lists-requires c κs =
+    let at-q = c .before .before .before .before .before .before .before in
+    let at-inside = at-q .before .before in
     between-range 0 blocksMost 6 6 _ _
-    (told-got (c .before .before .before .before .before .before .before .before .before .inside .ensures)
-    (c .before .before .before .before .before .before .before .q .given .1)) .1
+    (told-got (at-inside .inside .ensures)
+    (at-q .q .given .1)) .1
 
 returns : tie.Need-returns
-returns c = check-lists _ _ _
-    (told-got (c .before .before .before .before .before .before .before .before .before .before .before .before .before .before .opening
-    .ensures) (c .before .before .before .before .before .before .before .before .before .before .before .before .at .given .1))
-    (told-got (c .before .before .before .before .before .before .before .before .before .before .inside .ensures)
-    (c .before .before .before .before .before .before .before .before .q .given .1)) _
-    (bounds-time _ _ _ _ _ (c .before .before .before .before .before .before .if-any .ensures)
-    (c .before .before .before .before .before .if-any2 .ensures)
-    (told-got (c .before .before .before .before .inside2 .ensures) (c .before .before .r .given .1))) (c .lists .ensures)
+returns c =
+    let at-inside2 = c .before .before .before .before in
+    let at-if-any2 = at-inside2 .before in
+    let at-if-any = at-if-any2 .before in
+    let at-q = at-if-any .before .before in
+    let at-inside = at-q .before .before in
+    let at-at = at-inside .before .before in
+    let at-opening = at-at .before .before in
+    check-lists _ _ _
+    (told-got (at-opening .opening .ensures) (at-at .at .given .1))
+    (told-got (at-inside .inside .ensures)
+    (at-q .q .given .1)) _
+    (bounds-time _ _ _ _ _ (at-if-any .if-any .ensures)
+    (at-if-any2 .if-any2 .ensures)
+    (told-got (at-inside2 .inside2 .ensures) (c .before .before .r .given .1))) (c .lists .ensures)
 
 returns-2 : tie.Need-returns-2
 unfolding Checked
-returns-2 c = check-time _ _ _
-    (told-got (c .before .before .before .before .before .before .before .before .before .before .before .before .before .opening .ensures)
-    (c .before .before .before .before .before .before .before .before .before .before .before .at .given .1))
-    (told-got (c .before .before .before .before .before .before .before .before .before .inside .ensures)
-    (c .before .before .before .before .before .before .before .q .given .1))
-    (bounds-time _ _ _ _ _ (c .before .before .before .before .before .if-any .ensures)
-    (c .before .before .before .before .if-any2 .ensures)
-    (told-refused (c .before .before .before .inside2 .ensures) (c .before .e .given .1)))
+returns-2 c =
+    let at-inside2 = c .before .before .before in
+    let at-if-any2 = at-inside2 .before in
+    let at-if-any = at-if-any2 .before in
+    let at-q = at-if-any .before .before in
+    let at-inside = at-q .before .before in
+    let at-at = at-inside .before .before in
+    let at-opening = at-at .before .before in
+    check-time _ _ _
+    (told-got (at-opening .opening .ensures)
+    (at-at .at .given .1))
+    (told-got (at-inside .inside .ensures)
+    (at-q .q .given .1))
+    (bounds-time _ _ _ _ _ (at-if-any .if-any .ensures)
+    (at-if-any2 .if-any2 .ensures)
+    (told-refused (at-inside2 .inside2 .ensures) (c .before .e .given .1)))
 
 returns-3 : tie.Need-returns-3
 unfolding Checked
-returns-3 c = check-blocks _ _ _
-    (told-got (c .before .before .before .before .before .before .before .opening .ensures)
-    (c .before .before .before .before .before .at .given .1))
-    (told-refused (c .before .before .before .inside .ensures) (c .before .e2 .given .1))
+returns-3 c =
+    let at-inside = c .before .before .before in
+    let at-at = at-inside .before .before in
+    let at-opening = at-at .before .before in
+    check-blocks _ _ _
+    (told-got (at-opening .opening .ensures)
+    (at-at .at .given .1))
+    (told-refused (at-inside .inside .ensures) (c .before .e2 .given .1))
 
 returns-4 : tie.Need-returns-4
 unfolding Checked

@@ -12,10 +12,15 @@ returns-2 : tie.Need-returns-2
 returns-2 c = λ p e w. few-members p e _ _ w (omega arith)
 
 returns-3 : tie.Need-returns-3
-returns-3 c = λ p e w. received p e _ _ w _ (c .before .before .before .before .last .ensures)
-    (c .before .before .before .before .before .before .before .before .before .before .if1 .left)
-    (c .before .before .before .before .before .before .before .before .before .if2 .left)
-    (c .before .before .before .before .before .before .before .read-disks .ensures .held) (c .before .before .read-short .ensures .held)
+returns-3 c =
+    let at-last = c .before .before .before .before in
+    let at-read-disks = at-last .before .before .before in
+    let at-if2 = at-read-disks .before .before in
+    let at-if1 = at-if2 .before in
+    λ p e w. received p e _ _ w _ (at-last .last .ensures)
+    (at-if1 .if1 .left)
+    (at-if2 .if2 .left)
+    (at-read-disks .read-disks .ensures .held) (c .before .before .read-short .ensures .held)
 
 pub fill-spec : {M : Type 1} → statement M
 fill-spec =

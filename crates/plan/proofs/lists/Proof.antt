@@ -12,37 +12,58 @@ use Rattle.plan.proofs.lists.Tie as tie
 
 short-last-requires : tie.Need-short-last-requires
 unfolding Bytes
-short-last-requires c κs = (
-  between-range _ _ 6 6 _ _ (told-got (c .before .before .before .inside .ensures) (c .before .m .given .1)) .1,
-  c .before .before .before .before .before .before .before .before .before .before .pre,
-)
+short-last-requires c κs =
+    let at-inside = c .before .before .before in
+    let at-start = at-inside .before .before .before .before .before .before .before in (
+      between-range _ _ 6 6 _ _ (told-got (at-inside .inside .ensures) (c .before .m .given .1)) .1,
+      at-start .pre,
+    )
 
 returns : tie.Need-returns
 unfolding told
-returns c = lists-done _ _ _ _
-    (c .before .before .before .before .before .before .before .before .before .before .before .past-disks .ensures)
-    (c .before .before .before .before .before .before .before .before .before .p .given .1)
-    (bounds-size _ _ _ _ (c .before .before .before .before .before .before .before .if-any .ensures)
-    (told-got (c .before .before .before .before .before .before .inside .ensures) (c .before .before .before .before .m .given .1)))
-    (c .before .before .before .before .before .before .before .before .before .before .before .before .before .pre)
+returns c =
+    let at-m = c .before .before .before .before in
+    let at-inside = at-m .before .before in
+    let at-if-any = at-inside .before in
+    let at-p = at-if-any .before .before in
+    let at-past-disks = at-p .before .before in
+    let at-start = at-past-disks .before .before in
+    lists-done _ _ _ _
+    (at-past-disks .past-disks .ensures)
+    (at-p .p .given .1)
+    (bounds-size _ _ _ _ (at-if-any .if-any .ensures)
+    (told-got (at-inside .inside .ensures) (at-m .m .given .1)))
+    (at-start .pre)
     (sym (c .before .before .short-last .ensures) ∙ ap told (c .enum-told .given .1))
 
 returns-2 : tie.Need-returns-2
 unfolding told Checked
-returns-2 c = lists-short _ _ _ _
-    (c .before .before .before .before .before .before .before .before .before .before .before .before .past-disks .ensures)
-    (c .before .before .before .before .before .before .before .before .before .before .p .given .1)
-    (bounds-size _ _ _ _ (c .before .before .before .before .before .before .before .before .if-any .ensures)
-    (told-got (c .before .before .before .before .before .before .before .inside .ensures)
-    (c .before .before .before .before .before .m .given .1))) (sym (c .before .before .before .short-last .ensures)
+returns-2 c =
+    let at-short-last = c .before .before .before in
+    let at-m = at-short-last .before .before in
+    let at-inside = at-m .before .before in
+    let at-if-any = at-inside .before in
+    let at-p = at-if-any .before .before in
+    let at-past-disks = at-p .before .before in
+    lists-short _ _ _ _
+    (at-past-disks .past-disks .ensures)
+    (at-p .p .given .1)
+    (bounds-size _ _ _ _ (at-if-any .if-any .ensures)
+    (told-got (at-inside .inside .ensures)
+    (at-m .m .given .1))) (sym (at-short-last .short-last .ensures)
     ∙ ap told (c .before .e .given .1))
 
 returns-3 : tie.Need-returns-3
 unfolding Checked
-returns-3 c = lists-size _ _ _ _ (c .before .before .before .before .before .before .before .before .past-disks .ensures)
-    (c .before .before .before .before .before .before .p .given .1)
-    (bounds-size _ _ _ _ (c .before .before .before .before .if-any .ensures)
-    (told-refused (c .before .before .before .inside .ensures) (c .before .e2 .given .1)))
+returns-3 c =
+    let at-inside = c .before .before .before in
+    let at-if-any = at-inside .before in
+    let at-p = at-if-any .before .before in
+    let at-past-disks = at-p .before .before in
+    lists-size _ _ _ _ (at-past-disks .past-disks .ensures)
+    (at-p .p .given .1)
+    (bounds-size _ _ _ _ (at-if-any .if-any .ensures)
+    (told-refused (at-inside .inside .ensures) (c .before .e2 .given .1)))
 
 returns-4 : tie.Need-returns-4
 unfolding Checked

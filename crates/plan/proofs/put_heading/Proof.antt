@@ -9,10 +9,14 @@ put-opening-requires c κs = let a = c .before .before .args in
     opening-room (a .unit) (a .tenancy) (a .q) (a .time) (a .out .now) (c .before .before .pre)
 
 returns : tie.Need-returns
-returns c = heading-laid _ _ _ _ _
-    (c .before .before .before .before .before .before .before .before .before .before .before .before .before .pre)
-    (c .before .before .before .before .before .before .before .before .before .before .put-opening .ensures)
-    (c .before .before .before .before .before .before .put .ensures) (c .before .before .put2 .ensures)
+returns c =
+    let at-put = c .before .before .before .before .before .before in
+    let at-put-opening = at-put .before .before .before .before in
+    let at-start = at-put-opening .before .before .before in
+    heading-laid _ _ _ _ _
+    (at-start .pre)
+    (at-put-opening .put-opening .ensures)
+    (at-put .put .ensures) (c .before .before .put2 .ensures)
 
 pub put-heading-spec : {M : Type 1} → statement M
 put-heading-spec =

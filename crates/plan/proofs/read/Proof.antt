@@ -8,9 +8,13 @@ fill-requires : tie.Need-fill-requires
 fill-requires c κs = found-few _ _ _ (c .before .before .before .before .before .check .ensures) _ (c .before .before .before .f .given .1)
 
 returns : tie.Need-returns
-returns c = found-whole _ _ _ _ _ _ _ _ _ _
-    (c .before .before .before .before .before .before .before .before .before .before .check .ensures)
-    (c .before .before .before .before .before .before .before .before .f .given .1) (c .before .before .before .before .fill .ensures)
+returns c =
+    let at-fill = c .before .before .before .before in
+    let at-f = at-fill .before .before .before .before in
+    let at-check = at-f .before .before in
+    found-whole _ _ _ _ _ _ _ _ _ _
+    (at-check .check .ensures)
+    (at-f .f .given .1) (at-fill .fill .ensures)
 
 returns-2 : tie.Need-returns-2
 returns-2 c = found-refused _ _ _ (c .before .before .before .check .ensures) _ _ _ _ (c .before .e .given .1)

@@ -7,14 +7,20 @@ use Rattle.plan.proofs.short_last.Statement.{statement}
 use Rattle.plan.proofs.short_last.Tie as tie
 
 returns : tie.Need-returns
-returns c = c .end .ensures
-    ∙ last-end _ _ _ _ _ (c .before .before .before .before .before .before .before .last .ensures)
-    (c .before .before .before .before .before .read-short .ensures .answer) (c .before .before .next .given .1)
+returns c =
+    let at-read-short = c .before .before .before .before .before in
+    let at-last = at-read-short .before .before in
+    c .end .ensures
+    ∙ last-end _ _ _ _ _ (at-last .last .ensures)
+    (at-read-short .read-short .ensures .answer) (c .before .before .next .given .1)
 
 returns-2 : tie.Need-returns-2
 unfolding told
-returns-2 c = last-stop _ _ _ _ _ (c .before .before .before .before .before .before .last .ensures)
-    (c .before .before .before .before .read-short .ensures .answer) (c .before .e .given .1)
+returns-2 c =
+    let at-read-short = c .before .before .before .before in
+    let at-last = at-read-short .before .before in
+    last-stop _ _ _ _ _ (at-last .last .ensures)
+    (at-read-short .read-short .ensures .answer) (c .before .e .given .1)
 
 pub short-last-spec : {M : Type 1} → statement M
 short-last-spec =

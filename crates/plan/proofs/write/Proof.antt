@@ -25,41 +25,48 @@ put-heading-requires c κs =
 
 put-disks-requires : tie.Need-put-disks-requires
 put-disks-requires c κs =
-    let sized = c .before .before .before .before .before .before in
+    let at-put-heading = c .before .before .before in
+    let at-if3 = at-put-heading .before .before in
+    let sized = at-if3 .before in
     let a = sized .before .before .before .before .before .before .args in
     disks-room (a .unit) (a .tenancy) (planOf (a .time) (a .disks .now) (a .short .now)) (a .out .now)
-    (omega (arith, sized .sheet-width .ensures, c .before .before .before .before .before .if3 .left))
-    (c .before .before .before .put-heading .ensures)
+    (omega (arith, sized .sheet-width .ensures, at-if3 .if3 .left))
+    (at-put-heading .put-heading .ensures)
 
 put-short-requires : tie.Need-put-short-requires
 put-short-requires c κs =
-    let sized = c .before .before .before .before .before .before .before .before .before .before .before .before .before .before in
+    let at-put = c .before .before .before in
+    let at-put-disks = at-put .before .before .before .before in
+    let at-put-heading = at-put-disks .before .before .before .before in
+    let at-if3 = at-put-heading .before .before in
+    let sized = at-if3 .before in
     let a = sized .before .before .before .before .before .before .args in
     short-room (a .unit) (a .tenancy) (planOf (a .time) (a .disks .now) (a .short .now)) (a .out .now)
     (omega (
       arith,
       sized .sheet-width .ensures,
-      c .before .before .before .before .before .before .before .before .before .before .before .before .before .if3 .left,
+      at-if3 .if3 .left,
     ))
-    (c .before .before .before .before .before .before .before .before .before .before .before .put-heading .ensures)
-    (c .before .before .before .before .before .before .before .put-disks .ensures) (c .before .before .before .put .ensures)
+    (at-put-heading .put-heading .ensures)
+    (at-put-disks .put-disks .ensures) (at-put .put .ensures)
 
 returns-4 : tie.Need-returns-4
 returns-4 c =
-    let sized = c .before .before .before .before .before .before .before .before .before .before .before .before .before .before
-    .before .before .before in
+    let at-put = c .before .before .before .before .before .before in
+    let at-put-disks = at-put .before .before .before .before in
+    let at-put-heading = at-put-disks .before .before .before .before in
+    let at-if3 = at-put-heading .before .before in
+    let sized = at-if3 .before in
     let a = sized .before .before .before .before .before .before .args in
     sheet-sent (a .unit) (a .tenancy) (planOf (a .time) (a .disks .now) (a .short .now)) (a .out .now)
     (omega (
       arith,
       sized .sheet-width .ensures,
-      c .before .before .before .before .before .before .before .before .before .before .before
-          .before .before .before .before .before .if3 .left,
+      at-if3 .if3 .left,
     ))
-    (c .before .before .before .before .before .before .before .before .before .before .before .before .before
-    .before .put-heading .ensures)
-    (c .before .before .before .before .before .before .before .before .before .before .put-disks .ensures)
-    (c .before .before .before .before .before .before .put .ensures)
+    (at-put-heading .put-heading .ensures)
+    (at-put-disks .put-disks .ensures)
+    (at-put .put .ensures)
     (sized .before .before .if1 .left) (sized .before .if2 .left) (c .before .before .put-short .ensures)
 
 pub write-spec : {M : Type 1} → statement M

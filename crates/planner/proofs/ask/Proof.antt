@@ -6,8 +6,8 @@ use Rattle.planner.proofs.ask.Tie as tie
 
 returns : tie.Need-returns
 returns c =
-    let read = c .before .before .before .before .before .before .before .before in
     let said = c .before .before .before .before .before in
+    let read = said .before .before .before in
     asks-case _ _ (read .before .before .pre) _ (read .read .ensures) (said .answer .given .1) (c .before .columns .ensures)
 
 returns-2 : tie.Need-returns-2

@@ -9,8 +9,9 @@ use Rattle.planner.proofs.solve.Tie as tie
 
 plan-requires : tie.Need-plan-requires
 plan-requires c κs =
+    let at-start = c .before .before .before .before .before .before in
     let long = length-replicate {A = ℕ} blocksMost 0 in
-    ready _ _ (c .before .before .before .before .before .before .pre) long long
+    ready _ _ (at-start .pre) long long
 
 returns : tie.Need-returns
 returns c =

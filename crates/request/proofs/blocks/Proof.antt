@@ -22,41 +22,66 @@ one-block-requires : tie.Need-one-block-requires Inv-loop μ-loop
 one-block-requires c κs = c .before .before .before .pre .1
 
 mul-copies : tie.Need-mul-copies Inv-loop μ-loop
-mul-copies c = omega
-    (arith, c .before .before .before .before .loop-test .taken, c .before .before .before .before .before .before .before .pre .0)
+mul-copies c =
+    let at-loop-test = c .before .before .before .before in
+    let at-start = at-loop-test .before .before .before in
+    omega
+    (arith, at-loop-test .loop-test .taken, at-start .pre .0)
 
 array-write-copies : tie.Need-array-write-copies Inv-loop μ-loop
 array-write-copies c =
-    omega (arith, c .before .before .before .before .loop-test .taken, c .before .before .before .before .before .before .before .pre .0)
+    let at-loop-test = c .before .before .before .before in
+    let at-start = at-loop-test .before .before .before in
+    omega (arith, at-loop-test .loop-test .taken, at-start .pre .0)
 
 returns : tie.Need-returns Inv-loop μ-loop
-returns c = answered-of
-    (filling-stop _ _ _ _ _ _ _ (c .before .before .before .before .before .before .loop .inv)
-    (c .before .before .before .before .before .loop-test .taken)
-    (copies-refused (c .before .before .before .before .one-block .ensures) (c .before .before .e .given .1))) (c .refuse .ensures _)
+returns c =
+    let at-one-block = c .before .before .before .before in
+    let at-loop-test = at-one-block .before in
+    let at-loop = at-loop-test .before in
+    answered-of
+    (filling-stop _ _ _ _ _ _ _ (at-loop .loop .inv)
+    (at-loop-test .loop-test .taken)
+    (copies-refused (at-one-block .one-block .ensures) (c .before .before .e .given .1))) (c .refuse .ensures _)
 
 add-i : tie.Need-add-i Inv-loop μ-loop
-add-i c = omega (
-  arith,
-  c .before .before .before .before .loop-test .taken,
-  c .before .before .before .before .before .before .before .pre .0,
-)
+add-i c =
+    let at-loop-test = c .before .before .before .before in
+    let at-start = at-loop-test .before .before .before in
+    omega (
+      arith,
+      at-loop-test .loop-test .taken,
+      at-start .pre .0,
+    )
 
 loop-again : tie.Need-loop-again Inv-loop μ-loop
-loop-again c = filling-step _ _ _ _ _ _ _ (c .before .before .before .before .before .loop .inv)
-    (c .before .before .before .before .loop-test .taken) (c .before .before .before .before .before .before .before .pre .0)
-    (copies-got (c .before .before .before .one-block .ensures) (c .before .m .given .1))
+loop-again c =
+    let at-one-block = c .before .before .before in
+    let at-loop-test = at-one-block .before in
+    let at-loop = at-loop-test .before in
+    let at-start = at-loop .before .before in
+    filling-step _ _ _ _ _ _ _ (at-loop .loop .inv)
+    (at-loop-test .loop-test .taken) (at-start .pre .0)
+    (copies-got (at-one-block .one-block .ensures) (c .before .m .given .1))
 
 returns-2 : tie.Need-returns-2 Inv-loop μ-loop
-returns-2 c = filling-done _ _ _ _ _ _ _ (c .before .before .before .before .loop .inv) _ refl refl
-    (c .before .before .before .loop-test .left) (c .before .before .before .before .before .before .pre .0)
+returns-2 c =
+    let at-loop-test = c .before .before .before in
+    let at-loop = at-loop-test .before in
+    let at-start = at-loop .before .before in
+    filling-done _ _ _ _ _ _ _ (at-loop .loop .inv) _ refl refl
+    (at-loop-test .loop-test .left) (at-start .pre .0)
     (told-got (c .before .before .end .ensures) (c .enum-told .given .1))
 
 returns-3 : tie.Need-returns-3 Inv-loop μ-loop
-returns-3 c = answered-of
-    (filling-extra _ _ _ _ _ _ _ (c .before .before .before .before .before .before .loop .inv)
-    (c .before .before .before .before .before .loop-test .left)
-    (told-refused (c .before .before .before .before .end .ensures) (c .before .before .e2 .given .1))) (c .refuse2 .ensures _)
+returns-3 c =
+    let at-end = c .before .before .before .before in
+    let at-loop-test = at-end .before in
+    let at-loop = at-loop-test .before in
+    answered-of
+    (filling-extra _ _ _ _ _ _ _ (at-loop .loop .inv)
+    (at-loop-test .loop-test .left)
+    (told-refused (at-end .end .ensures) (c .before .before .e2 .given .1))) (c .refuse2 .ensures _)
 
 pub blocks-spec : {M : Type 1} → statement M
 blocks-spec =

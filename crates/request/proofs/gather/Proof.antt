@@ -19,23 +19,29 @@ returns c = gathering-ends (c .before .before .loop .inv) (c .before .loop-test 
 
 returns-2 : tie.Need-returns-2 Inv-loop μ-loop
 returns-2 c =
-    let l = c .before .before .before .before .before .before in
+    let at-loop-test = c .before .before .before .before .before in
+    let l = at-loop-test .before in
     c .not-disk .ensures .told
-    ∙ gathering-stop (l .loop .inv) (c .before .before .before .before .before .loop-test .taken) (c .not-disk .ensures .stops _)
+    ∙ gathering-stop (l .loop .inv) (at-loop-test .loop-test .taken) (c .not-disk .ensures .stops _)
 
 returns-3 : tie.Need-returns-3 Inv-loop μ-loop
 unfolding toldCopies
 returns-3 c =
-    let l = c .before .before .before .before .before .before in
-    gathering-low (l .loop .inv) (l .before .before .pre) (c .before .before .before .before .if1 .left) (c .before .before .wide .ensures)
-    (c .before .if2 .left) (c .before .before .before .before .before .loop-test .taken) (c .if3 .taken)
+    let at-if1 = c .before .before .before .before in
+    let at-loop-test = at-if1 .before in
+    let l = at-loop-test .before in
+    gathering-low (l .loop .inv) (l .before .before .pre) (at-if1 .if1 .left) (c .before .before .wide .ensures)
+    (c .before .if2 .left) (at-loop-test .loop-test .taken) (c .if3 .taken)
 
 loop-again : tie.Need-loop-again Inv-loop μ-loop
 loop-again c =
-    let l = c .before .before .before .before .before .before .before in
-    gathering-step (l .loop .inv) (l .before .before .pre) (c .before .before .before .before .before .if1 .left)
-    (c .before .before .before .wide .ensures) (c .before .before .if2 .left)
-    (c .before .before .before .before .before .before .loop-test .taken) (c .before .if3 .left) (c .put .ok) (c .put .ensures)
+    let at-wide = c .before .before .before in
+    let at-if1 = at-wide .before .before in
+    let at-loop-test = at-if1 .before in
+    let l = at-loop-test .before in
+    gathering-step (l .loop .inv) (l .before .before .pre) (at-if1 .if1 .left)
+    (at-wide .wide .ensures) (c .before .before .if2 .left)
+    (at-loop-test .loop-test .taken) (c .before .if3 .left) (c .put .ok) (c .put .ensures)
 
 returns-4 : tie.Need-returns-4 Inv-loop μ-loop
 unfolding toldCopies

@@ -19,9 +19,12 @@ returns-2 c = sym (block-many _ _ _ _ _
     (c .before .if1 .left) (c .if2 .taken))
 
 returns-3 : tie.Need-returns-3
-returns-3 c = c .gather .ensures
+returns-3 c =
+    let at-k = c .before .before .before .before in
+    let at-number = at-k .before .before in
+    c .gather .ensures
     ∙ sym (block-of _ _ _ _ _
-    (told-got (c .before .before .before .before .before .before .number .ensures) (c .before .before .before .before .k .given .1))
+    (told-got (at-number .number .ensures) (at-k .k .given .1))
     (c .before .before .if1 .left) (c .before .if2 .left))
 
 returns-4 : tie.Need-returns-4

@@ -6,13 +6,20 @@ use Rattle.request.proofs.put_block.Tie as tie
 
 put-disks-requires : tie.Need-put-disks-requires
 put-disks-requires c κs =
-    block-room _ (c .before .before .before .before .before .count .ensures)
-    (c .before .before .before .before .before .before .before .pre) (c .before .before .before .put .ensures)
+    let at-put = c .before .before .before in
+    let at-count = at-put .before .before in
+    let at-start = at-count .before .before in
+    block-room _ (at-count .count .ensures)
+    (at-start .pre) (at-put .put .ensures)
 
 returns : tie.Need-returns
-returns c = block-put _ (c .before .before .before .before .before .before .before .before .count .ensures)
-    (c .before .before .before .before .before .before .before .before .before .before .pre)
-    (c .before .before .before .before .before .before .put .ensures) (c .before .before .put-disks .ensures)
+returns c =
+    let at-put = c .before .before .before .before .before .before in
+    let at-count = at-put .before .before in
+    let at-start = at-count .before .before in
+    block-put _ (at-count .count .ensures)
+    (at-start .pre)
+    (at-put .put .ensures) (c .before .before .put-disks .ensures)
 
 pub put-block-spec : {M : Type 1} → statement M
 put-block-spec =

@@ -26,12 +26,14 @@ put-block-requires c κs = spell-room blockBytes _ _ 0 (c .before .before .loop-
     (c .before .before .before .loop .inv .1)
 
 loop-again : tie.Need-loop-again Inv-loop μ-loop
-loop-again c = (
-  omega (arith, c .before .before .before .before .before .loop-test .taken),
-  c .before .before .before .before .before .before .loop .inv .1,
-  blocks-more _ _ (c .before .before .before .before .before .loop-test .taken)
-      (c .before .before .before .before .before .before .loop .inv .2) (c .before .before .put-block .ensures),
-)
+loop-again c =
+    let at-loop-test = c .before .before .before .before .before in
+    let at-loop = at-loop-test .before in (
+      omega (arith, at-loop-test .loop-test .taken),
+      at-loop .loop .inv .1,
+      blocks-more _ _ (at-loop-test .loop-test .taken)
+          (at-loop .loop .inv .2) (c .before .before .put-block .ensures),
+    )
 
 same-length : tie.Need-same-length Inv-loop μ-loop
 same-length c = laid-length (c .before .loop .inv .2)

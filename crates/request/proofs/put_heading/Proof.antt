@@ -14,8 +14,11 @@ put-opening-requires c κs = let a = c .before .before .args in
 
 returns : tie.Need-returns
 unfolding headingBytes
-returns c = put-behind (c .before .before .before .before .before .before .put-opening .ensures) (c .before .before .put .ensures)
-    (c .before .before .before .before .before .before .before .before .before .pre)
+returns c =
+    let at-put-opening = c .before .before .before .before .before .before in
+    let at-start = at-put-opening .before .before .before in
+    put-behind (at-put-opening .put-opening .ensures) (c .before .before .put .ensures)
+    (at-start .pre)
 
 pub put-heading-spec : {M : Type 1} → statement M
 put-heading-spec = tie.close (tie.spec put-opening-requires (λ c κs. search needs) (λ c. search needs) returns)

@@ -7,10 +7,12 @@ use Rattle.request.proofs.read.Statement.{statement}
 use Rattle.request.proofs.read.Tie as tie
 
 blocks-requires : tie.Need-blocks-requires
-blocks-requires c κs = (
-  heading-within _ _ _ _ (told-got (c .before .before .before .before .heading .ensures) (c .before .before .q .given .1)),
-  omega (arith, c .last .ensures, last-under (c .before .before .before .before .before .before .args .disks)),
-)
+blocks-requires c κs =
+    let at-heading = c .before .before .before .before in
+    let at-start = at-heading .before .before in (
+      heading-within _ _ _ _ (told-got (at-heading .heading .ensures) (c .before .before .q .given .1)),
+      omega (arith, c .last .ensures, last-under (at-start .args .disks)),
+    )
 
 returns : tie.Need-returns
 returns c = answered-sheet _ _ _ _

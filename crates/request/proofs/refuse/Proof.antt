@@ -1,11 +1,12 @@
 -- `refuse` meets its contract: what a refusal tells, and 1,024 zeros.
-use Rattle.request.specs.Told.{toldAnswer, counted, padded}
+use Rattle.basics.specs.Padded.{padTo}
+use Rattle.request.specs.Told.{toldAnswer, counted, copiesOf}
 use mathlib.Core.Path.{refl}
 use Rattle.request.proofs.refuse.Statement.{statement}
 use Rattle.request.proofs.refuse.Tie as tie
 
 returns : tie.Need-returns
-unfolding toldAnswer counted padded
+unfolding toldAnswer counted copiesOf padTo
 returns c = λ len. record { told = refl; held = refl }
 
 pub refuse-spec : {M : Type 1} → statement M

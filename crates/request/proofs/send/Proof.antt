@@ -44,15 +44,17 @@ add-length-4 c = let at = c .before .before .before .before .before in
     )
 
 returns : tie.Need-returns
-returns c = let at = c .before .before .before .before .before .before in
+returns c =
     let wide = c .before in
+    let at = wide .before .before .before .before .before in
     let long = request-length (at .args .unit) (at .args .tenancy) (at .args .copies .now) (wide .before .before .width .ensures)
     (wide .before .width2 .ensures) (wide .width3 .ensures) (at .pre) in
     sent-long _ _ (omega (arith, long, c .if1 .taken))
 
 put-heading-requires : tie.Need-put-heading-requires
-put-heading-requires c κs = let at = c .before .before .before .before .before .before .before in
+put-heading-requires c κs =
     let wide = c .before .before in
+    let at = wide .before .before .before .before .before in
     let long = request-length (at .args .unit) (at .args .tenancy) (at .args .copies .now) (wide .before .before .width .ensures)
     (wide .before .width2 .ensures) (wide .width3 .ensures) (at .pre) in
     let room : length (requestBytes (at .args .unit) (at .args .tenancy) (at .args .copies .now)) ≤ length (at .args .out .now) =
@@ -60,22 +62,28 @@ put-heading-requires c κs = let at = c .before .before .before .before .before 
     heading-room (at .args .unit) (at .args .tenancy) (at .args .copies .now) (at .args .out .now) room
 
 put-blocks-requires : tie.Need-put-blocks-requires
-put-blocks-requires c κs = let at = c .before .before .before .before .before .before .before .before .before .before .before in
-    let wide = c .before .before .before .before .before .before in
+put-blocks-requires c κs =
+    let at-put-heading = c .before .before .before in
+    let at-if1 = at-put-heading .before .before in
+    let wide = at-if1 .before in
+    let at = wide .before .before .before .before .before in
     let long = request-length (at .args .unit) (at .args .tenancy) (at .args .copies .now) (wide .before .before .width .ensures)
     (wide .before .width2 .ensures) (wide .width3 .ensures) (at .pre) in
     let room : length (requestBytes (at .args .unit) (at .args .tenancy) (at .args .copies .now)) ≤ length (at .args .out .now) =
-    omega (arith, long, c .before .before .before .before .before .if1 .left) in
-    blocks-room _ _ _ _ room (c .before .before .before .put-heading .ensures)
+    omega (arith, long, at-if1 .if1 .left) in
+    blocks-room _ _ _ _ room (at-put-heading .put-heading .ensures)
 
 returns-2 : tie.Need-returns-2
-returns-2 c = let at = c .before .before .before .before .before .before .before .before .before .before .before .before .before .before in
-    let wide = c .before .before .before .before .before .before .before .before .before in
+returns-2 c =
+    let at-put-heading = c .before .before .before .before .before .before in
+    let at-if1 = at-put-heading .before .before in
+    let wide = at-if1 .before in
+    let at = wide .before .before .before .before .before in
     let long = request-length (at .args .unit) (at .args .tenancy) (at .args .copies .now) (wide .before .before .width .ensures)
     (wide .before .width2 .ensures) (wide .width3 .ensures) (at .pre) in
     let room : length (requestBytes (at .args .unit) (at .args .tenancy) (at .args .copies .now)) ≤ length (at .args .out .now) =
-    omega (arith, long, c .before .before .before .before .before .before .before .before .if1 .left) in
-    request-sent _ _ _ _ room (c .before .before .before .before .before .before .put-heading .ensures)
+    omega (arith, long, at-if1 .if1 .left) in
+    request-sent _ _ _ _ room (at-put-heading .put-heading .ensures)
     (c .before .before .put-blocks .ensures)
 
 pub send-spec : {M : Type 1} → statement M

@@ -33,38 +33,49 @@ returns-2 c = counting-many _ _ _ _ (c .before .before .before .before .before .
 
 returns-3 : tie.Need-returns-3 Inv-loop μ-loop
 unfolding Sized
-returns-3 c = let turn = c .before .before .before .before .before .before in
+returns-3 c =
+    let at-count = c .before .before .before in
+    let at-if1 = at-count .before in
+    let at-shared-slice-known2 = at-if1 .before in
+    let turn = at-shared-slice-known2 .before in
     let i = turn .before .loop .i in
     let ms = turn .before .before .before .before .args .copies .now in
-    let fits : getD ms i 0 < 2 ^ 64 = omega (arith, c .before .before .before .before .before .shared-slice-known2 .given i) in
+    let fits : getD ms i 0 < 2 ^ 64 = omega (arith, at-shared-slice-known2 .shared-slice-known2 .given i) in
     let few : members disksMost (getD ms i 0) ≤ copiesMost =
-    omega (arith, c .before .before .before .count .ensures, c .before .before .if2 .left) in
+    omega (arith, at-count .count .ensures, c .before .before .if2 .left) in
     let high = known-out _ _ _ _ (turn .before .before .before .before .pre .0) (turn .before .before .below .ensures) fits
     (c .before .without .ensures) (c .before .without .ok) (c .if3 .taken) in
-    counting-high _ _ _ _ (turn .before .loop .inv) (turn .loop-test .taken) _ refl (c .before .before .before .before .if1 .left) few high
+    counting-high _ _ _ _ (turn .before .loop .inv) (turn .loop-test .taken) _ refl (at-if1 .if1 .left) few high
 
 add-total : tie.Need-add-total Inv-loop μ-loop
 add-total c = omega (arith, c .before .before .if2 .left)
 
 add-total-2 : tie.Need-add-total-2 Inv-loop μ-loop
-add-total-2 c = omega (
-  arith,
-  c .before .before .if2 .left,
-  c .before .before .before .before .before .before .before .loop .inv .small,
-  c .before .before .before .before .before .before .before .before .before .before .pre .1,
-)
+add-total-2 c =
+    let at-loop = c .before .before .before .before .before .before .before in
+    let at-start = at-loop .before .before .before in
+    omega (
+      arith,
+      c .before .before .if2 .left,
+      at-loop .loop .inv .small,
+      at-start .pre .1,
+    )
 
 loop-again : tie.Need-loop-again Inv-loop μ-loop
-loop-again c = let turn = c .before .before .before .before .before .before in
+loop-again c =
+    let at-count = c .before .before .before in
+    let at-if1 = at-count .before in
+    let at-shared-slice-known2 = at-if1 .before in
+    let turn = at-shared-slice-known2 .before in
     let i = turn .before .loop .i in
     let ms = turn .before .before .before .before .args .copies .now in
-    let fits : getD ms i 0 < 2 ^ 64 = omega (arith, c .before .before .before .before .before .shared-slice-known2 .given i) in
+    let fits : getD ms i 0 < 2 ^ 64 = omega (arith, at-shared-slice-known2 .shared-slice-known2 .given i) in
     let few : members disksMost (getD ms i 0) ≤ copiesMost =
-    omega (arith, c .before .before .before .count .ensures, c .before .before .if2 .left) in
+    omega (arith, at-count .count .ensures, c .before .before .if2 .left) in
     let under = known-in _ _ _ _ (turn .before .before .before .before .pre .0) (turn .before .before .below .ensures) fits
     (c .before .without .ensures) (c .if3 .left) in
-    counting-step _ _ _ _ (turn .before .loop .inv) (turn .loop-test .taken) _ refl (c .before .before .before .before .if1 .left) few _
-    (c .before .before .before .count .ensures) under
+    counting-step _ _ _ _ (turn .before .loop .inv) (turn .loop-test .taken) _ refl (at-if1 .if1 .left) few _
+    (at-count .count .ensures) under
 
 returns-4 : tie.Need-returns-4 Inv-loop μ-loop
 unfolding Sized

@@ -26,11 +26,14 @@ send-requires : tie.Need-send-requires
 send-requires c κs = sized-got _ _ (c .before .before .before .before .size .ensures) (c .before .before .n .given .1) .0
 
 returns-5 : tie.Need-returns-5
-returns-5 c = let tests = c .before .before .before .before .before .before .before .before in
+returns-5 c =
+    let at-n = c .before .before .before .before .before in
+    let at-size = at-n .before .before in
+    let tests = at-size .before in
     let draft = draft-of _ _ _ _ (tests .before .before .before .if1 .left) (tests .before .before .if2 .left)
     (tests .before .if3 .left) (tests .if4 .left) in
-    sent-as (draft ∙ sized-got _ _ (c .before .before .before .before .before .before .before .size .ensures)
-    (c .before .before .before .before .before .n .given .1) .1 _) (c .before .before .send .ensures)
+    sent-as (draft ∙ sized-got _ _ (at-size .size .ensures)
+    (at-n .n .given .1) .1 _) (c .before .before .send .ensures)
 
 returns-6 : tie.Need-returns-6
 returns-6 c = let tests = c .before .before .before .before in

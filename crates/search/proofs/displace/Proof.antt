@@ -25,8 +25,9 @@ pull-requires c κs =
 returns : tie.Need-returns
 unfolding Sought Improved
 returns c =
-    let s = c .before .before .before .before .before .before .before .before .before .before .seek .ensures in
-    let w = rw (c .before .before .before .before .before .before .before .before .hit .given .1) at (s .0) in
+    let free = c .before .before .before .before .before .before .before .before in
+    let s = free .before .before .seek .ensures in
+    let w = rw (free .hit .given .1) at (s .0) in
     record { drawn = c .pull .ensures; disk = w .1 .disk; had = w .2; long = s .2 }
 
 returns-2 : tie.Need-returns-2

@@ -36,10 +36,8 @@ held-requires c κs =
 
 -- the step's block has a copy on the disk that has room
 copy : (c : tie.Then2 Inv-loop μ-loop)
-    → holds (c .before .before .before .before .before .before .before .before .args .masks .now)
-    (getD (c .before .before .before .before .before .before .before .before .args .by .now)
-    (c .before .before .before .before .before .before .before .loop .k - 1) 0)
-    (c .before .before .before .before .before .before .before .loop .d) ≡ true
+    → let round = c .before .before .before .before .before .before .before in
+    let lists = round .before .args in holds (lists .masks .now) (getD (lists .by .now) (round .loop .k - 1) 0) (round .loop .d) ≡ true
 copy c = sym (c .before .held .ensures) ∙ c .if2 .taken
 
 shift-requires : tie.Need-shift-requires Inv-loop μ-loop
@@ -92,9 +90,10 @@ pull-spec =
     (λ c. omega (arith, block (c .before .before .before), c .before .before .before .before .before .pre .seated .placed .blocks))
     held-requires
     shift-requires
-    (λ c. omega (arith, left (c .before .before .before .before .before .before .before .before .before .before .before .before)))
+    (λ c. let entered = c .before .before .before .before .before .before .before .before .before .before .before .before in
+    omega (arith, left entered))
     loop-again
-    (λ c. omega (arith, left (c .before .before .before .before .before .before)))
+    (λ c. let entered = c .before .before .before .before .before .before in omega (arith, left entered))
     loop-again-2
     (λ c. omega (arith, left (c .before .before .before)))
     loop-again-3

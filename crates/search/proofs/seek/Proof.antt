@@ -40,7 +40,8 @@ chosen-reached c =
     reached (l .before .before .before .pre .0) (l .search .inv .0) (c .lowest .result) (w .without .result)
     (w .without .ensures) (chosen c)
 
-chosen-disk : (c : tie.After-lowest Inv-search μ-search) → c .lowest .result < c .before .before .before .before .before .before .args .n
+chosen-disk : (c : tie.After-lowest Inv-search μ-search) → let round = c .before .before .before in
+    c .lowest .result < round .before .before .before .args .n
 chosen-disk c = c .before .before .before .search .inv .0 .seeks .small (c .lowest .result) (chosen-reached c)
 
 chosen-small : (c : tie.After-lowest Inv-search μ-search) → c .lowest .result < disksMost

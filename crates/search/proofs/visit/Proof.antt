@@ -33,14 +33,16 @@ loop-holds : tie.Need-loop-holds Inv-loop μ-loop
 loop-holds c = let v = c .before .before .pre in round-start (v .row) (v .seeks)
 
 -- the block at which the walk is brings a disk
-turn : (c : tie.Then1 Inv-loop μ-loop) → let s = c .before .before .before .before .before .before .before .before in
-    let l = c .before .before .before .before .before .loop in let a = s .args in
+turn : (c : tie.Then1 Inv-loop μ-loop) → let round = c .before .before .before .before .before in
+    let l = round .loop in let a = round .before .before .before .args in
     Turn (a .n) (a .q) (a .b) (a .base) (a .bound) (a .masks .now) (a .seats .now) (a .room) (l .by) (l .steps) (l .disks) (l .y) (a .d)
     (c .before .without .result)
 turn c =
     let w = c .before .without in
-    round-turn (c .before .before .before .before .before .loop .inv) (c .before .before .before .before .loop-test .taken) (w .result)
-    (c .before .before .before .before .before .before .before .before .pre) (omega (arith, w .ok)) (w .ensures) (c .if1 .taken)
+    let entered = c .before .before .before .before in
+    let round = entered .before in
+    round-turn (round .loop .inv) (entered .loop-test .taken) (w .result) (round .before .before .before .pre) (omega (arith, w .ok))
+    (w .ensures) (c .if1 .taken)
 
 -- there is room for its note
 few : (c : tie.Then1 Inv-loop μ-loop) → c .before .before .before .before .before .loop .steps < placesMost
@@ -92,11 +94,8 @@ returns-2 c =
 
 cast-y-2 : tie.Need-cast-y-2 Inv-loop μ-loop
 cast-y-2 c =
-    omega (
-      arith,
-      c .before .before .before .before .before .before .before .before .before .pre .row .bounded
-          (c .before .before .before .before .before .before .loop .y),
-    )
+    let round = c .before .before .before .before .before .before in
+    omega (arith, round .before .before .before .pre .row .bounded (round .loop .y))
 
 loop-less : tie.Need-loop-less Inv-loop μ-loop
 loop-less c = round-less (c .before .before .before .before .before .before .loop .inv) (omega arith)

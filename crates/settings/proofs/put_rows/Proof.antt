@@ -32,7 +32,8 @@ loop-again c =
 
 returns : tie.Need-returns Inv-loop μ-loop
 returns c =
-    let fit = c .before .before .before .before .before .before .pre .0 in
+    let at-start = c .before .before .before .before .before .before in
+    let fit = at-start .pre .0 in
     puts-done (c .before .loop .inv) (rows-end _ _ _ (fit .0) (fit .1) (c .loop-test .left))
 
 pub put-rows-spec : {M : Type 1} → statement M

@@ -8,21 +8,27 @@ use Rattle.settings.proofs.row_width.Tie as tie
 
 add-result : tie.Need-add-result
 add-result c =
-    let a = c .before .before .before .before .before .before .args in omega (arith, width-bounds (a .cost), width-bounds (a .load))
+    let at-start = c .before .before .before .before .before .before in
+    let a = at-start .args in omega (arith, width-bounds (a .cost), width-bounds (a .load))
 
 add-result-2 : tie.Need-add-result-2
 add-result-2 c =
-    let a = c .before .before .before .before .before .before .before .args in
+    let at-start = c .before .before .before .before .before .before .before in
+    let a = at-start .args in
     omega (arith, width-bounds (a .cost), width-bounds (a .load), width-bounds (a .delay))
 
 returns-5 : tie.Need-returns-5
 returns-5 c =
+    let at-if4 = c .before .before .before in
+    let at-if3 = at-if4 .before in
+    let at-if2 = at-if3 .before in
+    let at-if1 = at-if2 .before in
     row-fit _
     (record {
-      cost-low = c .before .before .before .before .before .before .if1 .left;
-      cost-high = c .before .before .before .before .before .if2 .left;
-      load-high = c .before .before .before .before .if3 .left;
-      delay-high = c .before .before .before .if4 .left;
+      cost-low = at-if1 .if1 .left;
+      cost-high = at-if2 .if2 .left;
+      load-high = at-if3 .if3 .left;
+      delay-high = at-if4 .if4 .left;
     })
     (c .before .before .width .ensures) (c .before .width2 .ensures) (c .width3 .ensures)
 

@@ -22,11 +22,14 @@ returns-2 c =
     write-out _ _ _ _ _ _ fit (c .before .rows-width .ensures) (c .if2 .taken)
 
 add-if3 : tie.Need-add-if3
-add-if3 c = omega (arith, width-bounds (c .before .before .before .before .before .before .before .before .before .args .unit))
+add-if3 c =
+    let at-start = c .before .before .before .before .before .before .before .before .before in
+    omega (arith, width-bounds (at-start .args .unit))
 
 add-if3-2 : tie.Need-add-if3-2
 add-if3-2 c =
-    let a = c .before .before .before .before .before .before .before .before .before .before .args in
+    let at-start = c .before .before .before .before .before .before .before .before .before .before in
+    let a = at-start .args in
     omega (arith, width-bounds (a .unit), width-bounds (a .tenancy))
 
 add-if3-3 : tie.Need-add-if3-3
@@ -63,23 +66,25 @@ put-heading-requires c κs =
 
 put-rows-requires : tie.Need-put-rows-requires
 put-rows-requires c κs =
-    let told = c .before .before .before .before .before .before .before .before .before in
-    let tested = c .before .before .before .before .before in
+    let at-put-heading = c .before .before .before in
+    let tested = at-put-heading .before .before in
+    let told = tested .before .before .before .before in
     let fit = lists-fit (sym (told .before .before .lists-fit .ensures) ∙ not-false _ (told .before .if1 .left)) in (
       (fit .loads, fit .delays),
       rows-room _ _ _ _ _ _ fit (told .rows-width .ensures) (tested .before .before .before .if2 .left)
           (tested .before .before .width .ensures) (tested .before .width2 .ensures) (tested .if3 .left)
-          (c .before .before .before .put-heading .ensures),
+          (at-put-heading .put-heading .ensures),
     )
 
 returns-4 : tie.Need-returns-4
 returns-4 c =
-    let told = c .before .before .before .before .before .before .before .before .before .before .before .before in
-    let tested = c .before .before .before .before .before .before .before .before in
+    let at-put-heading = c .before .before .before .before .before .before in
+    let tested = at-put-heading .before .before in
+    let told = tested .before .before .before .before in
     let fit = lists-fit (sym (told .before .before .lists-fit .ensures) ∙ not-false _ (told .before .if1 .left)) in
     write-done _ _ _ _ _ _ fit (told .rows-width .ensures) (tested .before .before .before .if2 .left)
     (tested .before .before .width .ensures) (tested .before .width2 .ensures) (tested .if3 .left)
-    (c .before .before .before .before .before .before .put-heading .ensures) (c .before .before .put-rows .ensures)
+    (at-put-heading .put-heading .ensures) (c .before .before .put-rows .ensures)
 
 pub write-spec : {M : Type 1} → statement M
 write-spec =

@@ -1,21 +1,21 @@
--- `main`. The loop's invariant: of what has been read so much is served, and what is left stands at the start of the buffer.
+-- `main`. The loop's invariant: of the pieces that were read so much is served, and what is left stands at the start of the buffer.
 use borrow.Author.Needs.{needs}
 use native.Mathlib.Omega.{arith}
 use Prim.Native.Nat.{_+_}
 use mathlib.Core.Logic.{⊎-elim}
-use mathlib.Core.Path.{_≡_, sym, refl, _∙_}
+use mathlib.Core.Path.{_≡_, sym, _∙_}
 use lib.Seq.{length-take-le}
 use Rattle.line.proofs.Adding.{printed-within}
 use lib.ListN.{length}
-use Rattle.wire.specs.declared.Input.the-variants.{Bytes, Later, End}
+use Rattle.wire.specs.declared.Input.the-variants.{Bytes, Later}
 use Rattle.wire.specs.Input.{came}
-use Rattle.shelf.proofs.Loop.{Holds, holds-start, holds-sound, used-within, holds-served, came-within, holds-as, room-left}
-use Rattle.shelf.proofs.Loop.{holds-came}
+use Rattle.shelf.proofs.Loop.{Holds, holds-start, used-within, holds-served, came-within, holds-as, room-left}
+use Rattle.shelf.proofs.Loop.{holds-came, holds-told}
 use Rattle.shelf.proofs.main.Statement.{statement}
 use Rattle.shelf.proofs.main.Tie as tie
 
 abbrev Inv-loop : tie.InvT-loop
-Inv-loop buf₀ line₀ shelf₀ have₀ ended₀ turns₀ buf line shelf have ended turns = Holds (length buf₀) shelf buf have
+Inv-loop buf₀ line₀ shelf₀ have₀ ended₀ turns₀ buf line shelf have ended turns = Holds (length buf₀) shelf buf have ended
 
 abbrev μ-loop : tie.MeasureT-loop
 μ-loop buf₀ line₀ shelf₀ have₀ ended₀ turns₀ buf line shelf have ended turns = turns
@@ -24,7 +24,7 @@ loop-holds : tie.Need-loop-holds Inv-loop μ-loop
 loop-holds c = holds-start _ (c .new .ensures) (omega arith)
 
 serve-requires : tie.Need-serve-requires Inv-loop μ-loop
-serve-requires c κs = holds-sound (c .before .before .before .loop .inv)
+serve-requires c κs = c .before .before .before .loop .inv .sound
 
 array-share-prefix-line : tie.Need-array-share-prefix-line Inv-loop μ-loop
 array-share-prefix-line c = printed-within (c .serve .ensures .printed)
@@ -63,10 +63,10 @@ loop-again c =
     let here = c .before .before .before .before .before .before .before .before .before .loop .have in
     let nothing : here ≡ here + 0 = omega arith in
     let turn = c .before .before .before .before .before .serve .ensures in
-    ⊎-elim (λ w. holds-as (w .5) (w .6) (holds-served inv _ turn (w .1 .given .1) (w .3 .ensures)))
-    (⊎-elim (λ w. holds-as (w .8) (w .9) (holds-came inv _ turn (w .1 .given .1) (Bytes _) (w .3 .ensures) (w .6 .given .1)))
-    (⊎-elim (λ w. holds-as (w .7) (w .8 ∙ nothing) (holds-came inv _ turn (w .1 .given .1) Later (w .3 .ensures) (w .6 .given .1)))
-    (λ w. holds-as (w .7) (w .8 ∙ nothing) (holds-came inv _ turn (w .1 .given .1) End (w .3 .ensures) (w .6 .given .1)))))
+    ⊎-elim (λ w. holds-as (w .5) (w .6) (w .7) (holds-served inv _ turn (w .1 .given .1) (w .3 .ensures)))
+    (⊎-elim (λ w. holds-as (w .8) (w .9) (w .10) (holds-came inv _ turn (w .1 .given .1) (Bytes _) (w .3 .ensures) (w .6 .given .1)))
+    (⊎-elim (λ w. holds-as (w .7) (w .8 ∙ nothing) (w .9) (holds-came inv _ turn (w .1 .given .1) Later (w .3 .ensures) (w .6 .given .1)))
+    (λ w. holds-as (w .7) (w .8) (w .9) (holds-told inv _ turn (w .1 .given .1) (w .3 .ensures)))))
     (c .match .came)
 
 pub main-spec : {M : Type 1} → statement M

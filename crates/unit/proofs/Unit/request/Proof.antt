@@ -5,7 +5,7 @@ use Rattle.unit.proofs.Unit.request.Statement.{statement}
 use Rattle.unit.proofs.Unit.request.Tie as tie
 
 plan-into-requires : tie.Need-plan-into-requires
-plan-into-requires c κs = c .before .before .before .before .before .pre .filled
+plan-into-requires c κs = c .before .before .before .before .before .pre .proper
 
 returns : tie.Need-returns
 returns c = replied (c .before .before .before .before .tenancy .ensures) (c .before .before .plan-into .ensures)

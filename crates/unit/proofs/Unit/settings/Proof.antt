@@ -2,13 +2,13 @@
 use borrow.Author.Needs.{needs}
 use Rattle.unit.proofs.Lives.{set-found, settled-accepted, settled-refused}
 use Rattle.unit.specs.Life.{takes, refuses}
-use Rattle.unit.specs.Told.{told, toldAnswer}
+use Rattle.unit.specs.Told.{told, toldVerdict}
 use mathlib.Core.Path.{sym, ap, _∙_}
 use Rattle.unit.proofs.Unit.settings.Statement.{statement}
 use Rattle.unit.proofs.Unit.settings.Tie as tie
 
 returns : tie.Need-returns
-unfolding told toldAnswer takes
+unfolding told toldVerdict takes
 returns c =
     let read = c .before .before .before .before in
     let taken = c .before .before .enum-told .given .1 in
@@ -16,7 +16,7 @@ returns c =
     ∙ sym (set-found _ _ _ (read .before .tenancy .ensures) ∙ settled-accepted _ _ _ _ (read .read .ensures) taken)
 
 returns-2 : tie.Need-returns-2
-unfolding told toldAnswer refuses
+unfolding told toldVerdict refuses
 returns-2 c =
     let read = c .before .before .before in
     sym (set-found _ _ _ (read .before .tenancy .ensures) ∙ settled-refused _ _ _ _ (read .read .ensures) _ (c .before .answer .given .1))

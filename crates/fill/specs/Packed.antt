@@ -1,7 +1,7 @@
 -- As many blocks on disks as there is room for.
---     Linked, Settled     a block that belongs to the search of those left over; one that brings it no new disk
 --     Reached             what those left over reach: the disks of the short set
---     Ready, Filled, Packed     what it takes, and what it leaves
+--     Packing             what it takes
+--     MostPlaced, Packed     what it leaves
 use Prim.Native.Nat.{ℕ, _<_}
 use mathlib.Core.Path.{_≡_}
 use mathlib.Core.Logic.{_⊎_}
@@ -16,35 +16,27 @@ use Rattle.places.specs.Places.{entry, holds, roomy, Placed}
 use Rattle.places.specs.Among.{Inside}
 use Rattle.places.specs.Seats.{Seated}
 
--- a block at this place belongs to the search: it is on no disk, or on a reached one
-abbrev pub Linked : ℕ → ℕ → ℕ → Type 0
-Linked n seat reached = (seat ≡ n) ⊎ (has reached seat ≡ true)
-
--- block b brings no new disk to the search
-abbrev pub Settled : ℕ → List ℕ → List ℕ → ℕ → ℕ → Type 0
-Settled n masks seats reached b = Linked n (getD seats b 0) reached → Inside (getD masks b 0) reached
-
 -- the reached disks x have no room, the blocks on them and on none have all copies there, and every closed set touches them
 pub record Reached (n q : ℕ) (masks seats : List ℕ) (room : ℕ → Bool) (x : ℕ) : Type 0 where
   pub small : (d : ℕ) → has x d ≡ true → d < n
   pub full : (d : ℕ) → has x d ≡ true → room d ≡ false
-  pub owns : (b : ℕ) → b < q → Settled n masks seats x b
+  pub owns : (b : ℕ) → b < q → (getD seats b 0 ≡ n) ⊎ (has x (getD seats b 0) ≡ true) → Inside (getD masks b 0) x
   pub least : (capacities : ℕ → ℕ) (S : ℕ → Bool) → Closed n q (holds masks) capacities (entry seats) S
       → (d : ℕ) → has x d ≡ true → touches q (holds masks) S d ≡ true
 
 -- blocks are placed within the capacities, and copies lie on disks below n
-pub record Ready (n q : ℕ) (masks caps seats counts next prev out : List ℕ) : Type 0 where
+pub record Packing (n q : ℕ) (masks caps seats counts next prev out : List ℕ) : Type 0 where
   pub seated : Seated n q 0 masks seats counts next prev out
   pub within : Within n q (entry caps) (entry seats)
   pub small : (b d : ℕ) → b < q → holds masks b d ≡ true → d < n
 
 -- as many blocks as there is room for are on disks, and x is what the rest reach
-pub record Filled (n q : ℕ) (masks caps seats counts : List ℕ) (x : ℕ) : Type 0 where
+pub record MostPlaced (n q : ℕ) (masks caps seats counts : List ℕ) (x : ℕ) : Type 0 where
   pub placed : Placed n q masks seats counts
   pub within : Within n q (entry caps) (entry seats)
   pub stuck : Reached n q masks seats (roomy caps counts) x
 
 -- the same, with rings and out
 pub record Packed (n q : ℕ) (masks caps seats counts next prev out : List ℕ) (x : ℕ) : Type 0 where
-  pub filled : Filled n q masks caps seats counts x
+  pub filled : MostPlaced n q masks caps seats counts x
   pub seated : Seated n q 0 masks seats counts next prev out

@@ -1,3 +1,0 @@
-#!/bin/bash
-# count.sh SHELF: k instructions a request
-for f in "experiment-20 1024" "eight-copies 1024" "staircase 1024" "eight-disks 1024" "chain 1024" "cost-1 1024" "same-copies 1024" "experiment-20 16" "eight-copies 16" "staircase 16"; do set -- $f; n=$((2048/$2)); ./families $1 64 $2 $n > s; ./families $1 64 $2 $n settings > t; a=$(valgrind --tool=callgrind --callgrind-out-file=/dev/null $SHELF_P < s 2>&1 >/dev/null | grep Collected | awk '{print $4}'); b=$(valgrind --tool=callgrind --callgrind-out-file=/dev/null $SHELF_P < t 2>&1 >/dev/null| grep Collected | awk '{print $4}'); echo "$1 $2: $(( (a-b)/n/1000 )) k"; done

@@ -1,0 +1,72 @@
+-- Wrong figures ruled out: no answer but the table's is a plan of its request, by the theorem that a case has one plan.
+--     soonest-copy                          each block on the copy that ends soonest (P4)
+--     larger-short-set, other-short-set     all three blocks, short too; a block that is not short (P5)
+--     later-schedule                        a schedule of the same time, not the first (P6)
+--     later-time                            one microsecond more (P7)
+--     rounded-up                            a block before its disk has read it (P9)
+use Prim.Native.Nat.{ℕ}
+use mathlib.Core.Bool.{true, false}
+use mathlib.Core.List.{List, [], _∷_, map}
+use mathlib.Core.Path.{_≡_, refl, sym, ap, _∙_}
+use native.Mathlib.Omega.{arith}
+use lib.ListN.{getD}
+use Rattle.basics.specs.Lists.{listed}
+use Rattle.basics.proofs.Tests.{differ}
+use Rattle.model.specs.Case.{base, capacityAt}
+use Rattle.model.specs.Figures.{Answer, asked, Holds, AllHold, table}
+use Rattle.model.specs.Order.{Agree}
+use Rattle.model.specs.Plan.{Optimal}
+use Rattle.model.proofs.Figures.{figures}
+use Rattle.model.proofs.Plan.{plan-unique}
+use Rattle.vectors.proofs.Figures.{copies-p5, P5, copies-p6, P6}
+
+-- {0,1} {0}
+abbrev copies-p4 : List (List ℕ)
+copies-p4 = (0 ∷ 1 ∷ []) ∷ (0 ∷ []) ∷ []
+
+P4 : Optimal (asked copies-p4) 5 (λ b. getD (1 ∷ 0 ∷ []) b 0) (listed (0 ∷ 1 ∷ []))
+unfolding AllHold Holds table
+P4 = figures .1 .1 .1 .0 .plan
+
+-- {0,1} {0,1} {0,1}
+abbrev copies-p7 : List (List ℕ)
+copies-p7 = (0 ∷ 1 ∷ []) ∷ (0 ∷ 1 ∷ []) ∷ (0 ∷ 1 ∷ []) ∷ []
+
+P7 : Optimal (asked copies-p7) 8 (λ b. getD (0 ∷ 1 ∷ 1 ∷ []) b 0) (listed (0 ∷ 1 ∷ 2 ∷ []))
+unfolding AllHold Holds table
+P7 = figures .1 .1 .1 .1 .1 .1 .0 .plan
+
+-- disk 1 at some times
+abbrev times : List ℕ
+times = 1 ∷ 4 ∷ 5 ∷ 7 ∷ 8 ∷ []
+
+P9 : map (λ t. capacityAt (asked []) t 1) times ≡ 0 ∷ 0 ∷ 1 ∷ 1 ∷ 2 ∷ []
+unfolding AllHold Holds table
+P9 = figures .1 .1 .1 .1 .1 .1 .1 .1 .0
+
+soonest-copy : Answer copies-p4 9 (0 ∷ 0 ∷ []) (0 ∷ 1 ∷ []) → ⊥
+soonest-copy w = omega (arith, plan-unique (asked copies-p4) 5 9 _ _ _ _ P4 (w .plan) .0)
+
+larger-short-set : Answer copies-p5 10 (2 ∷ 0 ∷ 0 ∷ []) (0 ∷ 1 ∷ 2 ∷ []) → ⊥
+unfolding Agree asked base listed
+larger-short-set w =
+    let e : false ≡ true = plan-unique (asked copies-p5) 10 10 _ _ _ _ P5 (w .plan) .2 1 (omega arith) in
+    differ e refl
+
+other-short-set : Answer copies-p5 10 (2 ∷ 0 ∷ 0 ∷ []) (1 ∷ []) → ⊥
+unfolding Agree asked base listed
+other-short-set w =
+    let e : false ≡ true = plan-unique (asked copies-p5) 10 10 _ _ _ _ P5 (w .plan) .2 1 (omega arith) in
+    differ e refl
+
+later-schedule : Answer copies-p6 9 (0 ∷ 1 ∷ 0 ∷ 1 ∷ []) (0 ∷ 1 ∷ 2 ∷ 3 ∷ []) → ⊥
+unfolding Agree asked base
+later-schedule w =
+    let e : _≡_ {A = ℕ} 0 1 = plan-unique (asked copies-p6) 9 9 _ _ _ _ P6 (w .plan) .1 1 (omega arith) in
+    omega (arith, e)
+
+later-time : Answer copies-p7 9 (0 ∷ 1 ∷ 1 ∷ []) (0 ∷ 1 ∷ 2 ∷ []) → ⊥
+later-time w = omega (arith, plan-unique (asked copies-p7) 8 9 _ _ _ _ P7 (w .plan) .0)
+
+rounded-up : map (λ t. capacityAt (asked []) t 1) times ≡ 0 ∷ 1 ∷ 1 ∷ 1 ∷ 2 ∷ [] → ⊥
+rounded-up h = let z : _≡_ {A = ℕ} 0 1 = ap (λ (l : List ℕ). getD l 1 0) (sym P9 ∙ h) in omega (arith, z)
