@@ -110,10 +110,11 @@ stored-runs: second
 	$(SECOND) shelf <crates/shelf/stdin | cmp - crates/shelf/stdout
 	$(SECOND) bench <crates/bench/stdin | cmp - crates/bench/stdout
 
-# Lines that can be read, and papers that cite what is there.
+# Lines that can be read, papers that cite what is there, a reading list as long as it says.
 readable:
 	tests/layout.sh
 	tests/papers.sh
+	tests/reading
 
 host-tests: $(LIBRARY) second-tests stored-runs readable
 	$(need-cc)

@@ -29,4 +29,5 @@ sed 's/^/    /' "$OUT/answers"
 
 echo "The tenant reads the plan:"
 echo
-"$TENANT" plan $unit $tenancy "$OUT/answers" --disks "$here/disks.csv" --request "$here/blocks.txt" --svg "$OUT/hire.svg"
+"$TENANT" plan $unit $tenancy "$OUT/answers" --disks "$here/disks.csv" --request "$here/blocks.txt" --calls "$OUT/calls" \
+    --svg "$OUT/hire.svg"

@@ -23,12 +23,13 @@ static const uint32_t COSTS[DISKS] = { 4, 3, 10 }, LOADS[DISKS] = { 0, 2, 0 }, D
 #define ON(disk) (UINT64_C(1) << (disk))
 static const uint64_t COPIES[BLOCKS] = { ON(0) | ON(1), ON(0) | ON(1), ON(0) | ON(1), ON(1) | ON(2) };
 
-/* Says why a call was refused, if it was. */
+/* Says why a call was refused, if it was, and at which byte of the sheet. */
 static int refused(const char *what, uint64_t answer)
 {
     if (rp_refusal(answer) == RP_ACCEPTED)
         return 0;
-    fprintf(stderr, "reel: %s: refused %u: %s\n", what, rp_refusal(answer), rp_refusal_words(rp_refusal(answer)));
+    fprintf(stderr, "reel: %s: refused %u (%s %" PRIu32 "): %s\n", what, rp_refusal(answer),
+        rp_refusal(answer) == RP_NO_ROOM ? "needs" : "place", rp_place(answer), rp_refusal_words(rp_refusal(answer)));
     return 1;
 }
 
@@ -109,14 +110,14 @@ static int show(const char *hex)
 static int book(void)
 {
     static char line[2 * RP_LONGEST_PLAN + 16];
-    unsigned number;
+    unsigned number, place;
     int plans = 0, faults = 0;
     while (fgets(line, sizeof line, stdin) != NULL) {
         if (strncmp(line, "plan ", 5) == 0) {
             plans++;
             faults += show(line + 5);
-        } else if (sscanf(line, "refused %u", &number) == 1) {
-            faults += refused("the shelf", number);
+        } else if (sscanf(line, "refused %u %u", &number, &place) == 2) {
+            faults += refused("the shelf", number | (uint64_t)place << 32);     /* as in an answer of the library */
         } else if (sscanf(line, "stopped %u", &number) == 1) {
             fprintf(stderr, "reel: the shelf stopped: the calls are damaged\n");
             faults++;

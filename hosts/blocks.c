@@ -124,8 +124,8 @@ static void tell_passed_over(const struct reading *r)
     if (r->numbered)
         return;
     if (r->commented > 0)
-        say("%s:%u: a block in a comment is no block: the blocks below it have moved up; a number and a colon before each "
-            "line's disks would keep the numbers", r->name, r->commented);
+        say("%s:%u: a block in a comment is no block: the blocks below it have moved up; a number and a colon before "
+            "each line's disks would keep the numbers", r->name, r->commented);
     if (r->gaps.count > 0 && r->list.len > 0)
         say("%s:%u: an empty line is no block (%u such); write - for a block that no disk holds", r->name,
             r->gaps.first, r->gaps.count);
@@ -217,8 +217,8 @@ static void add_block_fault(struct faults *faults, const struct blocks *blocks, 
             (unsigned)disks - 1);
 }
 
-/* Says why a list was refused, with everything that is wrong. */
-static void say_fault(const struct blocks *blocks, uint32_t tenancy, uint32_t disks, unsigned refusal)
+/* Says why a list was refused, with everything that is wrong: a writer tells no place, the lines do. */
+static void say_fault(const struct blocks *blocks, uint32_t tenancy, uint32_t disks, uint64_t answer)
 {
     struct faults faults = faults_new();
     const char *cure = "correct the list and run this again";
@@ -231,13 +231,17 @@ static void say_fault(const struct blocks *blocks, uint32_t tenancy, uint32_t di
     } else if (blocks->count > RP_MOST_BLOCKS) {
         faults_add(&faults, "%s: %s blocks, and a request has at most %s", blocks->name,
             grouped(blocks->count).text, grouped(RP_MOST_BLOCKS).text);
+    } else if (rp_refusal(answer) == RP_NO_ROOM) {
+        faults_add(&faults, "%s: the sheet needs %s bytes, the buffer has %s", blocks->name,
+            grouped(rp_place(answer)).text, grouped(RP_LONGEST_REQUEST).text);
+        cure = remedy_here(RP_NO_ROOM);
     } else {
-        if (refusal == RP_NO_COPY)
-            cure = remedy_here(refusal);
+        if (rp_refusal(answer) == RP_NO_COPY)
+            cure = remedy_here(RP_NO_COPY);
         for (size_t i = 0; i < blocks->count; i++)
             add_block_fault(&faults, blocks, i, disks);
     }
-    say_refused(refusal, faults_text(&faults), cure);
+    say_refused(rp_refusal(answer), faults_text(&faults), cure);
     faults_free(&faults);
 }
 
@@ -252,7 +256,7 @@ uint32_t blocks_sheet(const struct blocks *blocks, uint32_t unit, uint32_t tenan
     answer = rp_write_request(unit, tenancy, disks, list, 8 * blocks->count, sheet, RP_LONGEST_REQUEST);
     bytes_free(&copies);
     if (rp_refusal(answer) != RP_ACCEPTED) {
-        say_fault(blocks, tenancy, disks, rp_refusal(answer));
+        say_fault(blocks, tenancy, disks, answer);
         return 0;
     }
     return rp_length(answer);

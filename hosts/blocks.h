@@ -1,8 +1,8 @@
 /*
  * A list of blocks: a line for each block in turn, with the numbers of the disks that hold it, in any order, parted by
  * blanks or any of , ; | / and a line of a single - for a block that no disk holds. The block's number and a colon may
- * stand before them. Comments from # on are passed over, and empty lines; blocks that they may stand for are told. Or the read request itself,
- * as bytes.
+ * stand before them. Comments from # on are passed over, and empty lines; blocks that they may stand for are told. Or
+ * the read request itself, as bytes.
  */
 #ifndef BLOCKS_H
 #define BLOCKS_H

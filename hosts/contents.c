@@ -4,11 +4,13 @@
 #include <stdio.h>
 #include <string.h>
 
+#include "number.h"
 #include "output.h"
 #include "remedy.h"
 #include "say.h"
 
-const struct expected ANYTHING = { NULL, NULL, RP_MOST_DISKS, 0 };
+const struct expected ANYTHING = { NULL, NULL, RP_MOST_DISKS, 0, false };
+const char SAYS_OTHERWISE[] = "the library says otherwise of this sheet: tell us, with the sheet";
 
 /* Where the reader is. */
 struct reader {
@@ -68,67 +70,70 @@ static void next_is(struct reader *r, const char *form, ...)
     va_end(values);
 }
 
-/* Refuses the number last read, or the place given. */
-static bool refuse(struct reader *r, unsigned refusal, size_t place)
-{
-    r->contents->refusal = refusal;
-    r->contents->place = place;
-    return false;
-}
-
-static bool refuse_because(struct reader *r, unsigned refusal, const char *form, ...)
+/* Refuses what stands at a place, and says what that is. */
+#if defined(__GNUC__)
+__attribute__((format(printf, 4, 5)))
+#endif
+static bool refuse(struct reader *r, unsigned refusal, size_t place, const char *form, ...)
 {
     va_list values;
     va_start(values, form);
     vsnprintf(r->contents->why, sizeof r->contents->why, form, values);
     va_end(values);
-    return refuse(r, refusal, r->start);
+    r->contents->refusal = refusal;
+    r->contents->place = place;
+    return false;
+}
+
+/* Refuses the number last read, and says why. */
+#define REFUSE(reader, refusal, ...) refuse(reader, refusal, (reader)->start, __VA_ARGS__)
+
+/* Refuses the form of a number, which so many of its bytes show. */
+static bool refuse_form(struct reader *r, size_t used)
+{
+    char digits[16] = "";
+    const uint8_t *bytes = r->sheet->at + r->start;
+    for (size_t i = 0; i < used; i++)
+        snprintf(digits + strlen(digits), sizeof digits - strlen(digits), "%s%02x", i > 0 ? " " : "", bytes[i]);
+    return REFUSE(r, RP_BAD_NUMBER, bytes[used - 1] == 0 ? "%s is not its shortest form" : "%s is too large", digits);
 }
 
 /* One number: 1 where the sheet ends, 2 where its form is wrong. */
 static bool take(struct reader *r)
 {
-    uint64_t value = 0;
+    size_t used;
+    enum form form = number_read(r->sheet->at + r->at, r->sheet->len - r->at, &r->value, &used);
     r->start = r->at;
-    for (unsigned i = 0; i < 5; i++) {
-        uint8_t byte;
-        if (r->start + i >= r->sheet->len)
-            return refuse(r, RP_SHEET_ENDS, r->sheet->len);
-        byte = r->sheet->at[r->start + i];
-        if ((i == 4 && byte > 15) || (i > 0 && byte == 0))
-            return refuse(r, RP_BAD_NUMBER, r->start);
-        value |= (uint64_t)(byte & 127) << 7 * i;
-        if (byte < 128) {
-            r->at = r->start + i + 1;
-            r->value = (uint32_t)value;
-            return true;
-        }
-    }
-    return refuse(r, RP_BAD_NUMBER, r->start);
+    if (form == FORM_BAD)
+        return refuse_form(r, used);
+    r->contents->inside = used > 0;
+    if (form == FORM_ENDS)
+        return refuse(r, RP_SHEET_ENDS, r->sheet->len, "%s", "");
+    r->at += used;
+    return true;
 }
 
-/* One number of a range. */
-static bool take_within(struct reader *r, uint32_t least, uint32_t most)
+/* One number of a range, and the refusal for what is out of it. */
+static bool take_within(struct reader *r, unsigned refusal, uint32_t least, uint32_t most)
 {
     if (!take(r))
         return false;
     if (r->value >= least && r->value <= most)
         return true;
     if (least == most)
-        return refuse_because(r, RP_OUT_OF_RANGE, "it is %s, and has to be %s", grouped(r->value).text,
-            grouped(least).text);
-    return refuse_because(r, RP_OUT_OF_RANGE, "it is %s, and has to be %s to %s", grouped(r->value).text,
-        grouped(least).text, grouped(most).text);
+        return REFUSE(r, refusal, "it is %s, and has to be %s", grouped(r->value).text, grouped(least).text);
+    return REFUSE(r, refusal, "it is %s, and has to be %s to %s", grouped(r->value).text, grouped(least).text,
+        grouped(most).text);
 }
 
-/* One number of 0 to `most` that is above the one before it, if there is one. */
+/* The number of a disk or block, 0 to `most`, that is above the one before it, if there is one. */
 static bool take_rising(struct reader *r, uint32_t most, bool first, uint32_t before)
 {
-    if (!take_within(r, 0, most))
+    if (!take_within(r, RP_BAD_INDEX, 0, most))
         return false;
     if (first || r->value > before)
         return true;
-    return refuse_because(r, RP_NOT_RISING, "it is %u, and the one before it is %u", (unsigned)r->value,
+    return REFUSE(r, RP_NOT_RISING, "it is %u, and the one before it is %u", (unsigned)r->value,
         (unsigned)before);
 }
 
@@ -153,10 +158,10 @@ static bool read_head(struct reader *r)
     if (!take(r))
         return false;
     if (r->value < KIND_SETTINGS || r->value > KIND_PLAN)
-        return refuse_because(r, RP_WRONG_KIND, "it is %s; settings are 1, a read request 2, a plan 3",
+        return REFUSE(r, RP_WRONG_KIND, "it is %s; settings are 1, a read request 2, a plan 3",
             grouped(r->value).text);
     if (r->expected->kind != 0 && r->value != r->expected->kind)
-        return refuse_because(r, RP_WRONG_KIND, "it is %u, %s", (unsigned)r->value, sheet_name(r->value));
+        return REFUSE(r, RP_WRONG_KIND, "it is %u, %s", (unsigned)r->value, sheet_name(r->value));
     c->kind = r->value;
     put_line(r, "kind %u: %s", (unsigned)c->kind, kind_name(c->kind));
     next_is(r, "the unit");
@@ -164,19 +169,24 @@ static bool read_head(struct reader *r)
         return false;
     c->unit = r->value;
     if (r->expected->unit != NULL && c->unit != *r->expected->unit)
-        return refuse_because(r, RP_WRONG_UNIT, "it is %u, not %u", (unsigned)c->unit,
+        return REFUSE(r, RP_WRONG_UNIT, "it is %u, not %u", (unsigned)c->unit,
             (unsigned)*r->expected->unit);
     put_line(r, "unit %u", (unsigned)c->unit);
     next_is(r, "the tenancy");
     if (!take(r))
         return false;
     c->tenancy = r->value;
+    if (r->expected->not_rented)
+        return REFUSE(r, RP_WRONG_TENANCY, "it is %u, and nobody has rented the unit", (unsigned)c->tenancy);
     if (c->tenancy == 0)
-        return refuse_because(r, RP_WRONG_TENANCY, "it is 0, and no tenancy is");
+        return REFUSE(r, RP_WRONG_TENANCY, "it is 0, and no tenancy is");
     if (r->expected->tenancy != NULL && c->tenancy != *r->expected->tenancy)
-        return refuse_because(r, RP_WRONG_TENANCY, "it is %u, not %u", (unsigned)c->tenancy,
+        return REFUSE(r, RP_WRONG_TENANCY, "it is %u, not %u", (unsigned)c->tenancy,
             (unsigned)*r->expected->tenancy);
     put_line(r, "tenancy %u", (unsigned)c->tenancy);
+    next_is(r, "after the tenancy");
+    if (c->kind == KIND_REQUEST && r->expected->disks == 0)
+        return refuse(r, RP_NO_SETTINGS, r->at, "the unit has no settings yet");
     return true;
 }
 
@@ -184,22 +194,22 @@ static bool read_settings(struct reader *r)
 {
     struct contents *c = r->contents;
     next_is(r, "the number of disks N");
-    if (!take_within(r, 1, RP_MOST_DISKS))
+    if (!take_within(r, RP_OUT_OF_RANGE, 1, RP_MOST_DISKS))
         return false;
     c->count = r->value;
     put_line(r, "N: %u disk%s", (unsigned)c->count, c->count == 1 ? "" : "s");
     for (uint32_t d = 0; d < c->count; d++) {
         struct row *row = &c->rows[d];
         next_is(r, "the cost of disk %u", (unsigned)d);
-        if (!take_within(r, 1, RP_MOST_COST))
+        if (!take_within(r, RP_BAD_AMOUNT, 1, RP_MOST_COST))
             return false;
         row->cost = r->value;
         next_is(r, "the load of disk %u", (unsigned)d);
-        if (!take_within(r, 0, RP_MOST_LOAD))
+        if (!take_within(r, RP_BAD_AMOUNT, 0, RP_MOST_LOAD))
             return false;
         row->load = r->value;
         next_is(r, "the delay of disk %u", (unsigned)d);
-        if (!take_within(r, 0, RP_MOST_DELAY))
+        if (!take_within(r, RP_BAD_AMOUNT, 0, RP_MOST_DELAY))
             return false;
         row->delay = r->value;
         put_line(r, "disk %u: cost %s, load %s, delay %s", (unsigned)d, grouped(row->cost).text,
@@ -217,10 +227,9 @@ static bool read_block(struct reader *r, uint32_t block)
     if (!take(r))
         return false;
     if (r->value == 0)
-        return refuse(r, RP_NO_COPY, r->start);
+        return REFUSE(r, RP_NO_COPY, "it is 0");
     if (r->value > RP_MOST_COPIES)
-        return refuse_because(r, RP_OUT_OF_RANGE, "it is %s, and has to be 1 to %d", grouped(r->value).text,
-            RP_MOST_COPIES);
+        return REFUSE(r, RP_OUT_OF_RANGE, "it is %s, and has to be 1 to %d", grouped(r->value).text, RP_MOST_COPIES);
     copies = r->value;
     for (uint32_t i = 0; i < copies; i++) {
         next_is(r, "disk %u of %u of block %u", (unsigned)i + 1, (unsigned)copies, (unsigned)block);
@@ -239,7 +248,7 @@ static bool read_request(struct reader *r)
 {
     struct contents *c = r->contents;
     next_is(r, "the number of blocks Q");
-    if (!take_within(r, 0, RP_MOST_BLOCKS))
+    if (!take_within(r, RP_OUT_OF_RANGE, 0, RP_MOST_BLOCKS))
         return false;
     c->count = r->value;
     put_line(r, "Q: %u block%s", (unsigned)c->count, c->count == 1 ? "" : "s");
@@ -259,7 +268,7 @@ static bool read_disks(struct reader *r, uint32_t blocks)
     uint32_t first = 0;
     for (uint32_t b = 0; b < blocks; b++) {
         next_is(r, "the disk of block %u", (unsigned)b);
-        if (!take_within(r, 0, RP_MOST_DISKS - 1))
+        if (!take_within(r, RP_BAD_INDEX, 0, RP_MOST_DISKS - 1))
             return false;
         snprintf(disks + strlen(disks), sizeof disks - strlen(disks), " %u", (unsigned)r->value);
         if (b + 1 < blocks && b + 1 - first < A_LINE)
@@ -297,19 +306,19 @@ static bool read_plan(struct reader *r)
 {
     struct contents *c = r->contents;
     next_is(r, "the number of blocks Q");
-    if (!take_within(r, 0, RP_MOST_BLOCKS))
+    if (!take_within(r, RP_OUT_OF_RANGE, 0, RP_MOST_BLOCKS))
         return false;
     c->count = r->value;
     put_line(r, "Q: %u block%s", (unsigned)c->count, c->count == 1 ? "" : "s");
     next_is(r, "the time R");
-    if (!take_within(r, c->count > 0, c->count > 0 ? RP_MOST_TIME : 0))
+    if (!take_within(r, RP_BAD_AMOUNT, c->count > 0, c->count > 0 ? RP_MOST_TIME : 0))
         return false;
     c->time = r->value;
     put_line(r, "R: %s microseconds", grouped(c->time).text);
     if (!read_disks(r, c->count))
         return false;
     next_is(r, "the size m of the short set");
-    if (!take_within(r, c->count > 0, c->count))
+    if (!take_within(r, RP_OUT_OF_RANGE, c->count > 0, c->count))
         return false;
     c->short_size = r->value;
     put_line(r, "m: %u block%s in the short set", (unsigned)c->short_size, c->short_size == 1 ? "" : "s");
@@ -324,7 +333,12 @@ static bool read_all(struct reader *r)
     if (!read_head(r) || !READ[r->contents->kind](r))
         return false;
     next_is(r, "the end of the sheet");
-    return r->at == r->sheet->len || refuse(r, RP_BYTES_FOLLOW, r->at);
+    if (r->at == r->sheet->len)
+        return true;
+    if (r->at + 1 == r->sheet->len)
+        return refuse(r, RP_BYTES_FOLLOW, r->at, "1 byte follows it, %02x", r->sheet->at[r->at]);
+    return refuse(r, RP_BYTES_FOLLOW, r->at, "%s bytes follow it, the first %02x", grouped(r->sheet->len - r->at).text,
+        r->sheet->at[r->at]);
 }
 
 /* Adds what is left from the line that was not finished on. */
@@ -339,7 +353,9 @@ static void put_rest(struct reader *r)
         put_line(r, "read so far");
     }
     r->at = end - place > MOST_SHOWN ? place + MOST_SHOWN : end;
-    put_line(r, "%s<- refused %u: %s", r->at < end ? ".. " : "", r->contents->refusal, r->contents->what);
+    put_line(r, "%s<- refused %u: %s%s", r->at < end ? ".. " : "", r->contents->refusal,
+        r->contents->refusal != RP_SHEET_ENDS ? "" : r->contents->inside ? "the end, inside " : "the end, before ",
+        r->contents->what);
 }
 
 void contents_read(const struct bytes *sheet, const struct expected *expected, struct contents *contents,
@@ -354,20 +370,25 @@ void contents_read(const struct bytes *sheet, const struct expected *expected, s
 bool contents_is_plan_of(const struct bytes *sheet, uint32_t unit, uint32_t tenancy)
 {
     struct contents contents = { .kind = 0 };
-    const struct expected expected = { &unit, &tenancy, RP_MOST_DISKS, KIND_PLAN };
+    const struct expected expected = { &unit, &tenancy, RP_MOST_DISKS, KIND_PLAN, false };
     struct reader r = { sheet, &expected, &contents, NULL, 0, 0, 0, 0 };
     return read_head(&r);
 }
 
-void contents_where(const struct contents *contents, struct bytes *where)
+void contents_add(const struct contents *contents, struct bytes *what)
 {
-    if (contents->refusal == RP_SHEET_ENDS && contents->place == 0)
-        bytes_addf(where, "there are no bytes in it");
-    else if (contents->refusal == RP_SHEET_ENDS)
-        bytes_addf(where, "byte %zu, where it ends: %s is due", contents->place, contents->what);
+    if (contents->refusal == RP_SHEET_ENDS)
+        bytes_addf(what, "the sheet ends there, %s %s", contents->inside ? "inside" : "before", contents->what);
     else
-        bytes_addf(where, "byte %zu: %s%s%s", contents->place, contents->what,
-            contents->why[0] == '\0' ? "" : ": ", contents->why);
+        bytes_addf(what, "%s: %s", contents->what, contents->why);
+}
+
+void contents_say(const struct contents *contents, const char *name, const char *what_to_do)
+{
+    struct bytes what = bytes_new();
+    contents_add(contents, &what);
+    say_refused_at(contents->refusal, contents->place, bytes_text(&what), name, what_to_do);
+    bytes_free(&what);
 }
 
 /* ---- sheets in the place of tables and lists ---- */
@@ -379,13 +400,8 @@ bool contents_begin(const struct bytes *bytes)
 
 static bool refused(const struct contents *contents, const char *name)
 {
-    struct bytes where = bytes_new();
-    if (contents->refusal != RP_ACCEPTED) {
-        bytes_addf(&where, "%s: ", name);
-        contents_where(contents, &where);
-        say_refused(contents->refusal, bytes_text(&where), remedy_here(contents->refusal));
-    }
-    bytes_free(&where);
+    if (contents->refusal != RP_ACCEPTED)
+        contents_say(contents, name, remedy_here(contents->refusal));
     return contents->refusal != RP_ACCEPTED;
 }
 
@@ -422,6 +438,12 @@ bool contents_blocks(const struct bytes *sheet, const char *name, struct expecte
 
 /* ---- the library's word ---- */
 
+bool contents_agree(const struct contents *contents, uint64_t answer)
+{
+    return contents->refusal == rp_refusal(answer)
+        && (contents->refusal == RP_ACCEPTED || contents->place == rp_place(answer));
+}
+
 /* Whether a writer gave the bytes of the sheet. */
 static bool same(uint64_t answer, const uint8_t *written, const struct bytes *sheet)
 {
@@ -451,11 +473,10 @@ static bool library_writes_request(const struct bytes *sheet, const struct conte
         written, sheet);
 }
 
-static unsigned library_reads_plan(const struct bytes *sheet, const struct contents *c,
-    const struct expected *expected)
+static bool library_reads_plan(const struct bytes *sheet, const struct contents *c, const struct expected *expected)
 {
     uint8_t disks[RP_MOST_BLOCKS], set[2 * RP_MOST_BLOCKS];
-    return rp_refusal(rp_read_plan(expected->unit != NULL ? *expected->unit : c->unit,
+    return contents_agree(c, rp_read_plan(expected->unit != NULL ? *expected->unit : c->unit,
         expected->tenancy != NULL ? *expected->tenancy : c->tenancy, sheet->at, sheet->len, disks, sizeof disks,
         set, sizeof set));
 }
@@ -464,7 +485,7 @@ static unsigned library_reads_plan(const struct bytes *sheet, const struct conte
 static bool library_agrees(const struct bytes *sheet, const struct contents *c, const struct expected *expected)
 {
     if (c->kind == KIND_PLAN)
-        return library_reads_plan(sheet, c, expected) == c->refusal;
+        return library_reads_plan(sheet, c, expected);
     if (c->refusal != RP_ACCEPTED)
         return true;
     return c->kind == KIND_SETTINGS ? library_writes_settings(sheet, c)
@@ -474,7 +495,7 @@ static bool library_agrees(const struct bytes *sheet, const struct contents *c, 
 int contents_show(const struct bytes *sheet, const struct expected *expected, const char *title)
 {
     static struct contents contents;
-    struct bytes text = bytes_new(), where = bytes_new();
+    struct bytes text = bytes_new();
     bool good;
     if (title != NULL)
         bytes_addf(&text, "%s\n", title);
@@ -484,16 +505,14 @@ int contents_show(const struct bytes *sheet, const struct expected *expected, co
         bytes_addf(&text, "%5zu  %-28s%s\n", sheet->len, "", "the end: a whole sheet");
     good = output_write(NULL, text.at, text.len);
     if (good && contents.refusal != RP_ACCEPTED) {
-        contents_where(&contents, &where);
-        say_refused(contents.refusal, bytes_text(&where), contents.refusal == RP_WRONG_KIND
+        contents_say(&contents, NULL, contents.refusal == RP_WRONG_KIND
             ? "these are not a sheet's bytes, or one of a newer version" : remedy_here(contents.refusal));
         good = false;
     }
     if (!library_agrees(sheet, &contents, expected)) {
-        say("the library says otherwise of this sheet: tell us, with the sheet");
+        say("%s", SAYS_OTHERWISE);
         good = false;
     }
     bytes_free(&text);
-    bytes_free(&where);
     return good ? STATUS_DONE : STATUS_BAD;
 }

@@ -20,8 +20,9 @@ enum { KIND_SETTINGS = 1, KIND_REQUEST = 2, KIND_PLAN = 3 };
 struct expected {
     const uint32_t *unit;
     const uint32_t *tenancy;
-    uint32_t disks;         /* N for a request, 64 where it is not known */
+    uint32_t disks;         /* N for a request, 64 where it is not known, 0 where there are no settings yet */
     uint32_t kind;          /* 0 for any of the three */
+    bool not_rented;        /* every tenancy is refused */
 };
 extern const struct expected ANYTHING;
 
@@ -35,9 +36,10 @@ struct contents {
     struct row rows[RP_MOST_DISKS];
     uint64_t copies[RP_MOST_BLOCKS];
     unsigned refusal;       /* 0 where the sheet is accepted */
-    size_t place;           /* of the number refused; the sheet's length for 1 */
+    size_t place;           /* of the number refused; the sheet's length for 1, the first byte that follows for 9 */
     char what[64];          /* what was to be read there */
-    char why[128];          /* what is wrong with it, or empty */
+    char why[128];          /* what stands there, or empty */
+    bool inside;            /* for 1: whether the sheet ends inside that number */
 };
 
 /* Reads a sheet; the fields are added to `text` line by line, with their places, unless it is null. */
@@ -47,8 +49,15 @@ void contents_read(const struct bytes *sheet, const struct expected *expected, s
 /* Whether the first three fields are those of a plan of this unit and tenancy. */
 bool contents_is_plan_of(const struct bytes *sheet, uint32_t unit, uint32_t tenancy);
 
-/* Where a sheet is refused, in words. */
-void contents_where(const struct contents *contents, struct bytes *where);
+/* Adds the field at which a sheet is refused, and what stands there. */
+void contents_add(const struct contents *contents, struct bytes *what);
+
+/* Says that a sheet is refused: number, place, the field and what stands there. The name of the sheet may be null. */
+void contents_say(const struct contents *contents, const char *name, const char *what_to_do);
+
+/* Whether the library's answer for a plan is what was read of it: the same refusal at the same place, or none. */
+bool contents_agree(const struct contents *contents, uint64_t answer);
+extern const char SAYS_OTHERWISE[];
 
 /* Whether bytes begin with the kind of a sheet, as no text does. */
 bool contents_begin(const struct bytes *bytes);

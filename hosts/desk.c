@@ -13,7 +13,7 @@
 
 static const char USAGE[] =
     "usage: desk settings UNIT TENANCY [TABLE] [-o FILE]\n"
-    "       desk show [SHEET] [--unit UNIT] [--tenancy TENANCY] [--disks N]\n"
+    "       desk show [SHEET] [--unit UNIT] [--tenancy TENANCY] [--disks N] [--calls FILE]\n"
     "       desk --help | --version\n";
 
 static const char HELP[] =
@@ -33,7 +33,9 @@ static const char HELP[] =
     "\n"
     "show shows any sheet field by field with the places of its bytes, and where it is refused.\n"
     "SHEET is a file, by default standard input: the sheet itself, or its bytes in hex or as xxd\n"
-    "or hexdump show them, or what the shelf printed. The options say what is expected of it.\n"
+    "or hexdump show them, or what the shelf printed. The options say what is expected of it. With\n"
+    "--calls FILE, the calls that were sent, as stream wrote them, what the shelf refused is told\n"
+    "with the field that stands at its place.\n"
     "\n"
     "FILE is written whole or not at all, not at all where the sheet is refused, and never over an\n"
     "input or a read-only file.\n"

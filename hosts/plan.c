@@ -8,21 +8,22 @@
 #include "remedy.h"
 #include "say.h"
 
-/* Says where the sheet is refused that the library refused. */
-static void say_where(const char *name, const struct found *found, uint32_t unit, uint32_t tenancy, unsigned refusal)
+/* Says what stands at the place where the library refused the sheet. */
+static void say_place(const char *name, const struct found *found, uint32_t unit, uint32_t tenancy, uint64_t answer)
 {
     static struct contents contents;
-    const struct expected expected = { &unit, &tenancy, RP_MOST_DISKS, KIND_PLAN };
-    struct bytes where = bytes_new();
-    contents_read(&found->sheet, &expected, &contents, NULL);
-    bytes_addf(&where, "%s:", name);
+    const struct expected expected = { &unit, &tenancy, RP_MOST_DISKS, KIND_PLAN, false };
+    struct bytes whose = bytes_new();
+    bytes_addf(&whose, "%s", name);
     if (found->line > 0)
-        bytes_addf(&where, "%u:", found->line);
-    bytes_addf(&where, " ");
-    if (contents.refusal == refusal)
-        contents_where(&contents, &where);
-    say_refused(refusal, bytes_text(&where), remedy_here(refusal));
-    bytes_free(&where);
+        bytes_addf(&whose, ":%u", found->line);
+    contents_read(&found->sheet, &expected, &contents, NULL);
+    if (contents_agree(&contents, answer))
+        contents_say(&contents, bytes_text(&whose), remedy_here(rp_refusal(answer)));
+    else
+        say_refused_at(rp_refusal(answer), rp_place(answer), SAYS_OTHERWISE, bytes_text(&whose),
+            remedy_here(rp_refusal(answer)));
+    bytes_free(&whose);
 }
 
 bool plan_read(const char *name, const struct found *found, uint32_t unit, uint32_t tenancy, struct plan *plan)
@@ -33,7 +34,7 @@ bool plan_read(const char *name, const struct found *found, uint32_t unit, uint3
     answer = rp_read_plan(unit, tenancy, found->sheet.at, found->sheet.len, plan->disk, sizeof plan->disk,
         short_set, sizeof short_set);
     if (rp_refusal(answer) != RP_ACCEPTED) {
-        say_where(name, found, unit, tenancy, rp_refusal(answer));
+        say_place(name, found, unit, tenancy, answer);
         return false;
     }
     plan->unit = unit;

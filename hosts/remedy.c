@@ -21,8 +21,8 @@ static const struct remedy REMEDIES[] = {
         "the sheet is of another unit; send it there, or write it for this one" },
     [RP_WRONG_TENANCY] = { "the sheet is of another tenancy, or TENANCY is 0; check TENANCY",
         "rent the unit first; if it is rented, write the sheet for that tenancy" },
-    [RP_OUT_OF_RANGE] = { "the sheet has a number that no such sheet can have; fetch it again",
-        "show the sheet and look at its numbers; a request may name only disks that the settings have" },
+    [RP_OUT_OF_RANGE] = { "the sheet has a count that no such sheet can have; fetch it again",
+        "show the sheet and look at that count; write the sheet again" },
     [RP_NO_COPY] = { "give every block at least one disk that holds it",
         "give every block at least one disk that holds it" },
     [RP_NOT_RISING] = { "the sheet's list is out of order or repeats a number; fetch it again",
@@ -30,11 +30,15 @@ static const struct remedy REMEDIES[] = {
     [RP_BYTES_FOLLOW] = { "give the sheet alone, with nothing after it",
         "send the sheet alone, with nothing after it" },
     [RP_NO_SETTINGS] = { NULL, "send the unit its settings sheet first" },
-    [RP_NO_ROOM] = { "lend a longer buffer; 2,964 bytes hold every plan",
+    [RP_NO_ROOM] = { "lend a buffer of the length that is needed",
         "ask with more room; 2,964 bytes hold every plan" },
     [RP_RENTED] = { NULL, "return the tenancy that the unit has first" },
     [RP_NOT_ABOVE] = { NULL, "rent with a tenancy number above all earlier ones" },
     [RP_NOT_THE_TENANT] = { NULL, "return with the tenancy number that the unit is rented under" },
+    [RP_BAD_AMOUNT] = { "the sheet has a time that no such sheet can have; fetch it again",
+        "correct that cost, load or delay in the table; write the settings again" },
+    [RP_BAD_INDEX] = { "the sheet names a disk or block that is not there; fetch it again",
+        "name only disks that the unit's settings have, or send it settings that have them" },
 };
 
 /* The row of a refusal, or an empty one. */

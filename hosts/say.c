@@ -33,3 +33,9 @@ void say_refused(unsigned refusal, const char *where, const char *what_to_do)
     }
     fprintf(stderr, "  what to do: %s\n", what_to_do);
 }
+
+void say_refused_at(unsigned refusal, size_t place, const char *what, const char *name, const char *what_to_do)
+{
+    fprintf(stderr, "refused %u at byte %zu: %s\n  %s%s%s\n  what to do: %s\n", refusal, place, what,
+        name == NULL ? "" : name, name == NULL ? "" : ": ", rp_refusal_words(refusal), what_to_do);
+}

@@ -2,6 +2,8 @@
 #ifndef SAY_H
 #define SAY_H
 
+#include <stddef.h>
+
 enum {
     STATUS_DONE = 0,
     STATUS_BAD = 1,     /* refused, or an input or output that can not be used */
@@ -20,5 +22,11 @@ void say(const char *form, ...);
 
 /* A refusal in words with its number, what it was met at (lines, or null), and what to do. */
 void say_refused(unsigned refusal, const char *where, const char *what_to_do);
+
+/*
+ * A refusal of a sheet: its number, its place and what stands there; the refusal in words, behind the name of the sheet
+ * (or null); and what to do.
+ */
+void say_refused_at(unsigned refusal, size_t place, const char *what, const char *name, const char *what_to_do);
 
 #endif

@@ -4,6 +4,7 @@
 #include <stdlib.h>
 #include <string.h>
 
+#include "calls.h"
 #include "contents.h"
 #include "hex.h"
 #include "input.h"
@@ -39,6 +40,10 @@ struct reading {
     unsigned hex_line;      /* the first of them */
     unsigned calls;         /* the shelf's lines so far, one for each call */
     bool rented;            /* by those lines */
+    const struct calls *sent;   /* the calls, null where they are not known */
+    uint32_t tenancy;       /* by lines and calls, while rented */
+    uint32_t disks;         /* N, by lines and calls; 0 before any settings */
+    unsigned others;        /* how many refusals the calls do not explain */
 };
 
 /* Whether a line is a word and, after a blank, the rest. */
@@ -62,20 +67,70 @@ static unsigned numbers_in(struct span rest, uint32_t numbers[3])
     return count;
 }
 
+/* Whether a refusal is of a call without a sheet: its place says nothing. */
+static bool has_no_sheet(uint32_t refusal)
+{
+    return refusal == RP_RENTED || refusal == RP_NOT_ABOVE || refusal == RP_NOT_THE_TENANT;
+}
+
+/* The call that a line answers; null where it is not known. */
+static const struct call *call_of(const struct reading *r)
+{
+    return r->sent != NULL && r->calls <= r->sent->count ? &r->sent->list[r->calls - 1] : NULL;
+}
+
+/* Reads the sheet of a call as the unit does that the lines have shown so far; false where the call has none. */
+static bool read_sent(const struct reading *r, struct contents *contents)
+{
+    const struct call *call = call_of(r);
+    const struct expected expected = { &r->sent->unit, &r->tenancy, r->disks,
+        call->kind == CALL_SETTINGS ? KIND_SETTINGS : KIND_REQUEST, !r->rented };
+    if (call->kind != CALL_SETTINGS && call->kind != CALL_REQUEST)
+        return false;
+    contents_read(&call->sheet, &expected, contents, NULL);
+    return true;
+}
+
+/* Adds the field at the place where the shelf refused a call's sheet; false where these bytes are not refused so. */
+static bool add_field(const struct reading *r, uint32_t refusal, uint32_t place, struct bytes *field)
+{
+    static struct contents contents;
+    if (!read_sent(r, &contents))
+        return false;
+    if (refusal == RP_NO_ROOM && contents.refusal == RP_ACCEPTED && place > call_of(r)->number) {
+        bytes_addf(field, "the plan needs %s bytes, the buffer has %s", grouped(place).text,
+            grouped(call_of(r)->number).text);
+        return true;
+    }
+    if (contents.refusal != refusal || contents.place != place)
+        return false;
+    contents_add(&contents, field);
+    return true;
+}
+
 /* Adds what has to be told of a call that was refused: its number and, if they are there, its place and which sheet. */
 static void add_refusal(struct reading *r, unsigned line, const uint32_t *numbers, unsigned count)
 {
-    struct bytes *told = &r->sheets->told;
-    if (r->sheets->refusals++ >= MOST_TOLD)
-        return;
-    bytes_addf(told, "refused %u: %s\n  %s:%u: the shelf refused call %u", (unsigned)numbers[0],
-        rp_refusal_words(numbers[0]), r->sheets->name, line, r->calls);
-    if (count > 1)
-        bytes_addf(told, numbers[0] == RP_NO_ROOM ? ", which needs room for %s" : ", at byte %s",
-            grouped(numbers[1]).text);
-    if (count > 2)
-        bytes_addf(told, " of sheet %u", (unsigned)numbers[2]);
-    bytes_addf(told, "\n  what to do: %s\n", remedy_at_shelf(numbers[0], r->rented));
+    struct bytes *told = &r->sheets->told, field = bytes_new();
+    const bool placed = count > 1 && !has_no_sheet(numbers[0]), no_room = numbers[0] == RP_NO_ROOM;
+    const bool named = placed && call_of(r) != NULL && add_field(r, numbers[0], numbers[1], &field);
+    if (placed && call_of(r) != NULL && !named)
+        r->others++;
+    if (r->sheets->refusals++ < MOST_TOLD) {
+        bytes_addf(told, "refused %u", (unsigned)numbers[0]);
+        if (placed && !no_room)
+            bytes_addf(told, " at byte %u", (unsigned)numbers[1]);
+        if (count > 2)
+            bytes_addf(told, " of sheet %u", (unsigned)numbers[2]);
+        bytes_addf(told, ": %s\n  %s:%u: the shelf refused call %u", named ? bytes_text(&field)
+            : rp_refusal_words(numbers[0]), r->sheets->name, line, r->calls);
+        if (named)
+            bytes_addf(told, ", %s: %s", call_name(call_of(r)->kind), rp_refusal_words(numbers[0]));
+        else if (placed && no_room)
+            bytes_addf(told, ", whose plan needs %s bytes", grouped(numbers[1]).text);
+        bytes_addf(told, "\n  what to do: %s\n", remedy_at_shelf(numbers[0], r->rented));
+    }
+    bytes_free(&field);
 }
 
 /* Adds that the shelf stopped. */
@@ -85,6 +140,26 @@ static void add_stop(struct reading *r, unsigned line, uint32_t number)
         "  what to do: write the stream of calls again, whole\n", (unsigned)number, why_stopped(number),
         r->sheets->name, line, r->calls);
     r->sheets->refusals++;
+}
+
+/* Takes a line that accepts a call of a kind, and what that makes of the unit. */
+static void accept(struct reading *r, unsigned line, uint32_t kind)
+{
+    static struct contents contents;
+    const struct call *call = call_of(r);
+    if (r->sent != NULL && (call == NULL || call->kind != kind)) {
+        say("%s:%u: this line does not answer call %u of %s: other calls were sent", r->sheets->name, line, r->calls,
+            r->sent->name);
+        r->sent = NULL;
+        call = NULL;
+    }
+    if (kind == CALL_SETTINGS && call != NULL && read_sent(r, &contents))
+        r->disks = contents.count;
+    if (kind == CALL_RENT || kind == CALL_RETURN) {
+        r->rented = kind == CALL_RENT;
+        r->tenancy = call == NULL ? 0 : call->number;
+        r->disks = 0;
+    }
 }
 
 static void add_sheet(struct reading *r, struct bytes *sheet, unsigned line)
@@ -98,14 +173,18 @@ static bool take_word(struct reading *r, unsigned line, struct span code)
     uint32_t numbers[3];
     struct span rest;
     unsigned count;
-    if (span_is(code, "rented") || span_is(code, "returned"))
-        r->rented = span_is(code, "rented");
+    if (span_is(code, "rented"))
+        accept(r, line, CALL_RENT);
+    else if (span_is(code, "set"))
+        accept(r, line, CALL_SETTINGS);
+    else if (span_is(code, "returned"))
+        accept(r, line, CALL_RETURN);
     else if (begins(code, "refused", &rest) && (count = numbers_in(rest, numbers)) > 0)
         add_refusal(r, line, numbers, count);
     else if (begins(code, "stopped", &rest) && numbers_in(rest, numbers) == 1)
         add_stop(r, line, numbers[0]);
     else
-        return span_is(code, "set");
+        return false;
     return true;
 }
 
@@ -115,10 +194,12 @@ static bool take_plan(struct reading *r, unsigned line, struct span code)
     struct bytes sheet = bytes_new();
     struct span rest;
     bool good = begins(code, "plan", &rest) && hex_read(rest, &sheet);
-    if (good)
+    if (good) {
+        accept(r, line, CALL_REQUEST);
         add_sheet(r, &sheet, line);
-    else
+    } else {
         bytes_free(&sheet);
+    }
     return good;
 }
 
@@ -182,10 +263,11 @@ static bool read_bytes(struct reading *r, struct bytes *all)
     return true;
 }
 
-bool sheets_read(const char *path, struct sheets *sheets)
+/* Reads a file with the calls that were sent, null where they are not known. */
+static bool read_file(const char *path, const struct calls *sent, struct sheets *sheets)
 {
     struct bytes all = bytes_new();
-    struct reading r = { sheets, bytes_new(), bytes_new(), 0, 0, false };
+    struct reading r = { .sheets = sheets, .found = bytes_new(), .hex = bytes_new(), .sent = sent };
     bool good;
     *sheets = (struct sheets){ input_name(path), NULL, 0, bytes_new(), 0 };
     good = input_read(path, &all);
@@ -199,8 +281,26 @@ bool sheets_read(const char *path, struct sheets *sheets)
     bytes_free(&r.hex);
     sheets->list = (struct found *)(void *)r.found.at;
     sheets->count = r.found.len / sizeof(struct found);
+    if (good && sent != NULL && r.calls == 0)
+        say("%s: there is no line of the shelf in it for the calls of %s", sheets->name, sent->name);
+    if (good && r.sent != NULL && r.others > 0)
+        say("%s: %u refusal%s that the calls of %s do not explain: other calls were sent", sheets->name, r.others,
+            r.others == 1 ? "" : "s", sent->name);
     if (!good)
         sheets_free(sheets);
+    return good;
+}
+
+bool sheets_read(const char *path, const char *calls_path, struct sheets *sheets)
+{
+    struct calls sent;
+    bool good;
+    if (calls_path == NULL)
+        return read_file(path, NULL, sheets);
+    if (!calls_read(calls_path, &sent))
+        return false;
+    good = read_file(path, &sent, sheets);
+    calls_free(&sent);
     return good;
 }
 

@@ -25,8 +25,11 @@ struct sheets {
     unsigned refusals;  /* how often it refused or stopped */
 };
 
-/* Reads a file, or says why it can not be read. */
-bool sheets_read(const char *path, struct sheets *sheets);
+/*
+ * Reads a file, or says why it can not be read. With the file of the calls that were sent, if it is not null, the
+ * shelf's refusals are told with the field at their place.
+ */
+bool sheets_read(const char *path, const char *calls_path, struct sheets *sheets);
 void sheets_free(struct sheets *sheets);
 
 /* Says what the shelf refused, line by line. */

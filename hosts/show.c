@@ -25,10 +25,10 @@ static int show_all(const struct sheets *sheets, const struct expected *expected
 
 int show_sheets(char **words)
 {
-    const char *places[1] = { NULL }, *unit_word = NULL, *tenancy_word = NULL, *disks_word = NULL;
+    const char *places[1] = { NULL }, *unit_word = NULL, *tenancy_word = NULL, *disks_word = NULL, *calls = NULL;
     const struct option options[] = {
         { "--unit", &unit_word, NULL }, { "--tenancy", &tenancy_word, NULL }, { "--disks", &disks_word, NULL },
-        { NULL, NULL, NULL }
+        { "--calls", &calls, NULL }, { NULL, NULL, NULL }
     };
     struct expected expected = ANYTHING;
     struct sheets sheets;
@@ -44,7 +44,7 @@ int show_sheets(char **words)
     }
     expected.unit = unit_word == NULL ? NULL : &unit;
     expected.tenancy = tenancy_word == NULL ? NULL : &tenancy;
-    if (!sheets_read(places[0], &sheets))
+    if (!sheets_read(places[0], calls, &sheets))
         return STATUS_BAD;
     sheets_tell(&sheets);
     if (sheets.count == 0)

@@ -3,14 +3,14 @@
 #include <string.h>
 
 #include "bytes.h"
+#include "calls.h"
 #include "input.h"
+#include "number.h"
 #include "options.h"
 #include "output.h"
 #include "program.h"
 #include "rippleplank.h"
 #include "say.h"
-
-enum { MOST_ROOM = 4096 };
 
 static const char USAGE[] =
     "usage: stream [-o FILE] UNIT CALL...\n"
@@ -28,14 +28,6 @@ static const char HELP[] =
     "\n"
     "Exit status: 0 written; 1 a file can not be used; 2 called wrongly.\n";
 
-/* A number in groups of seven bits, lowest first; a byte of 128 or more says that another follows. */
-static void put_number(struct bytes *out, uint32_t value)
-{
-    for (; value >= 128; value >>= 7)
-        bytes_add(out, &(uint8_t){ (uint8_t)(value | 128) }, 1);
-    bytes_add(out, &(uint8_t){ (uint8_t)value }, 1);
-}
-
 /* Adds a length and the sheet of a file. */
 static int put_sheet(struct bytes *out, const char *path)
 {
@@ -47,7 +39,7 @@ static int put_sheet(struct bytes *out, const char *path)
         good = false;
     }
     if (good) {
-        put_number(out, (uint32_t)sheet.len);
+        number_add(out, (uint32_t)sheet.len);
         bytes_add(out, sheet.at, sheet.len);
     }
     bytes_free(&sheet);
@@ -57,10 +49,9 @@ static int put_sheet(struct bytes *out, const char *path)
 /* A call's kind and how many words follow its name; 0 where there is no such call. */
 static uint32_t kind_of(const char *name, int *words)
 {
-    static const char *const NAMES[] = { "rent", "settings", "request", "return" };
-    for (uint32_t kind = 1; kind <= 4; kind++) {
-        if (strcmp(name, NAMES[kind - 1]) == 0) {
-            *words = kind == 3 ? 2 : 1;
+    for (uint32_t kind = CALL_RENT; kind <= CALL_RETURN; kind++) {
+        if (strcmp(name, call_name(kind)) == 0) {
+            *words = kind == CALL_REQUEST ? 2 : 1;
             return kind;
         }
     }
@@ -71,18 +62,18 @@ static uint32_t kind_of(const char *name, int *words)
 static int put_call(struct bytes *out, uint32_t kind, char **words)
 {
     uint32_t number;
-    put_number(out, kind);
-    if (kind == 2)
+    number_add(out, kind);
+    if (kind == CALL_SETTINGS)
         return put_sheet(out, words[0]);
-    if (!word_number(kind == 3 ? "ROOM" : "TENANCY", words[0], &number))
+    if (!word_number(kind == CALL_REQUEST ? "ROOM" : "TENANCY", words[0], &number))
         return program_usage();
-    if (kind == 3 && number > MOST_ROOM) {
+    if (kind == CALL_REQUEST && number > MOST_ROOM) {
         say("ROOM is %s, and the shelf stops above %s; %s hold every plan", grouped(number).text,
             grouped(MOST_ROOM).text, grouped(RP_LONGEST_PLAN).text);
         return program_usage();
     }
-    put_number(out, number);
-    return kind == 3 ? put_sheet(out, words[1]) : STATUS_DONE;
+    number_add(out, number);
+    return kind == CALL_REQUEST ? put_sheet(out, words[1]) : STATUS_DONE;
 }
 
 /* Adds all calls. */
@@ -122,7 +113,7 @@ static int frame(char **words)
     if (!word_number("UNIT", words[0], &unit))
         return program_usage();
     out = bytes_new();
-    put_number(&out, unit);
+    number_add(&out, unit);
     status = put_calls(&out, count - 1, words + 1);
     if (status == STATUS_DONE && !output_bytes(path, out.at, out.len))
         status = STATUS_BAD;

@@ -9,6 +9,7 @@
 #include "csv.h"
 #include "faults.h"
 #include "input.h"
+#include "remedy.h"
 #include "say.h"
 
 enum { DISK, COST, LOAD, DELAY, COLUMNS, NO_COLUMN = COLUMNS };
@@ -286,21 +287,25 @@ void table_free(struct table *table)
     table->count = 0;
 }
 
-/* Says why a table was refused, with everything that is out of range. */
-static void say_fault(const struct table *table, uint32_t tenancy, unsigned refusal)
+/* Says why a table was refused, with everything that is out of range: a writer tells no place, the lines do. */
+static void say_fault(const struct table *table, uint32_t tenancy, uint64_t answer)
 {
     struct faults faults = faults_new();
     const char *cure = "correct the table and run this again";
     if (tenancy == 0) {
         faults_add(&faults, "TENANCY is 0, and no tenancy is");
         cure = "give the number of the hire";
+    } else if (rp_refusal(answer) == RP_NO_ROOM) {
+        faults_add(&faults, "%s: the sheet needs %s bytes, the buffer has %d", table->name,
+            grouped(rp_place(answer)).text, RP_LONGEST_SETTINGS);
+        cure = remedy_here(RP_NO_ROOM);
     } else if (table->count < 1 || table->count > RP_MOST_DISKS) {
         faults_add(&faults, "%s: %zu disks, and a unit has 1 to %d", table->name, table->count, RP_MOST_DISKS);
     } else {
         for (size_t i = 0; i < table->count; i++)
             add_row_faults(&faults, table->name, &table->rows[i], i);
     }
-    say_refused(refusal, faults_text(&faults), cure);
+    say_refused(rp_refusal(answer), faults_text(&faults), cure);
     faults_free(&faults);
 }
 
@@ -320,7 +325,7 @@ uint32_t table_sheet(const struct table *table, uint32_t unit, uint32_t tenancy,
         RP_LONGEST_SETTINGS);
     bytes_free(&lists);
     if (rp_refusal(answer) != RP_ACCEPTED) {
-        say_fault(table, tenancy, rp_refusal(answer));
+        say_fault(table, tenancy, answer);
         return 0;
     }
     return rp_length(answer);

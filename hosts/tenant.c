@@ -17,8 +17,8 @@
 static const char USAGE[] =
     "usage: tenant request UNIT TENANCY DISKS [LIST] [-o FILE]\n"
     "       tenant plan UNIT TENANCY [SHEET] [--nth N] [--disks TABLE [--svg FILE]] [--request LIST]\n"
-    "                   [--by-block | --json | --line | --time]\n"
-    "       tenant show [SHEET] [--unit UNIT] [--tenancy TENANCY] [--disks N]\n"
+    "                   [--calls FILE] [--by-block | --json | --line | --time]\n"
+    "       tenant show [SHEET] [--unit UNIT] [--tenancy TENANCY] [--disks N] [--calls FILE]\n"
     "       tenant --help | --version\n";
 
 static const char HELP[] =
@@ -49,13 +49,15 @@ static const char HELP[] =
     "--request LIST  the list that the request was made from, or that sheet: checks that every\n"
     "                block is read from a disk that holds it; with --disks also that R is least,\n"
     "                and shows why: the disks of the short set and their room before R\n"
+    "--calls FILE    the calls that were sent, as stream wrote them: what the shelf refused is told with\n"
+    "                the field that stands at its place\n"
     "--by-block      shows each block's disk too\n"
     "--json          one line of JSON\n"
     "--line          the line that the bench program prints\n"
     "--time          R alone\n"
     "\n"
     "show shows any sheet field by field with the places of its bytes, and where it is refused. The\n"
-    "options say what is expected of it.\n"
+    "options say what is expected of it; --calls is as above.\n"
     "\n"
     "Files are written whole or not at all, not at all where something is refused, and never over\n"
     "an input or a read-only file.\n"
@@ -84,7 +86,7 @@ static int request(char **words)
 /* What `tenant plan` is asked for. */
 struct wish {
     const char *places[3];
-    const char *nth, *disks, *picture, *request;
+    const char *nth, *disks, *picture, *request, *calls;
     bool by_block, json, line, time;
     uint32_t unit, tenancy, number;
 };
@@ -93,8 +95,8 @@ static bool read_wish(char **words, struct wish *w)
 {
     const struct option options[] = {
         { "--nth", &w->nth, NULL }, { "--disks", &w->disks, NULL }, { "--svg", &w->picture, NULL },
-        { "--request", &w->request, NULL }, { "--by-block", NULL, &w->by_block }, { "--json", NULL, &w->json },
-        { "--line", NULL, &w->line }, { "--time", NULL, &w->time }, { NULL, NULL, NULL }
+        { "--request", &w->request, NULL }, { "--calls", &w->calls, NULL }, { "--by-block", NULL, &w->by_block },
+        { "--json", NULL, &w->json }, { "--line", NULL, &w->line }, { "--time", NULL, &w->time }, { NULL, NULL, NULL }
     };
     memset(w, 0, sizeof *w);
     if (!options_read(words, w->places, 2, 3, options) || !word_number("UNIT", w->places[0], &w->unit)
@@ -120,7 +122,7 @@ static bool read_plan(const struct wish *w, struct plan *plan, bool *told)
     struct sheets sheets;
     const struct found *found;
     bool good;
-    if (!sheets_read(w->places[2], &sheets))
+    if (!sheets_read(w->places[2], w->calls, &sheets))
         return false;
     sheets_tell(&sheets);
     *told = sheets.refusals > 0;
@@ -134,7 +136,7 @@ static bool read_plan(const struct wish *w, struct plan *plan, bool *told)
 static bool read_table(const char *path, const struct plan *plan, struct table *table)
 {
     uint8_t sheet[RP_LONGEST_SETTINGS];
-    const struct expected expected = { &plan->unit, &plan->tenancy, RP_MOST_DISKS, 0 };
+    const struct expected expected = { &plan->unit, &plan->tenancy, RP_MOST_DISKS, 0, false };
     if (!table_read(path, &expected, table))
         return false;
     if (table_sheet(table, plan->unit, plan->tenancy, sheet) > 0 && plan_fits(plan, table))
@@ -147,7 +149,7 @@ static bool read_table(const char *path, const struct plan *plan, struct table *
 static bool read_request(const char *path, const struct plan *plan, uint32_t disks, struct blocks *blocks)
 {
     static uint8_t sheet[RP_LONGEST_REQUEST];
-    const struct expected expected = { &plan->unit, &plan->tenancy, disks, 0 };
+    const struct expected expected = { &plan->unit, &plan->tenancy, disks, 0, false };
     return blocks_read(path, &expected, blocks)
         && blocks_sheet(blocks, plan->unit, plan->tenancy, disks, sheet) > 0 && plan_holds(plan, blocks);
 }

@@ -13,7 +13,8 @@
  *   cost, load, delay   a disk's microseconds for one block, still to work off, and of travel
  *   R           the plan's time in microseconds
  *   short set   the m blocks that can not all be read one microsecond sooner
- *   refusal     0 accepted, else why not: RP_SHEET_ENDS and on, 1 to 14
+ *   refusal     0 accepted, else why not: RP_SHEET_ENDS and on, 1 to 16
+ *   place       where a refused sheet is wrong: a byte of it, counted from 0, or its length
  *
  * What a caller owes, for every pointer: it is not null, its length is the number of bytes that may be
  * read there (or, for `out`, `disks` and `short_set`, written), and what is lent to be written overlaps
@@ -35,9 +36,9 @@ extern "C" {
 #endif
 
 /* The version of this header. That of the library which is linked is rp_version(). */
-#define RP_VERSION "1.0.0"
+#define RP_VERSION "1.1.0"
 
-/* The refusals. The desk end gives 1 to 9 and 11; a unit gives 10 and 12 to 14 as well. */
+/* The refusals. The desk end gives 1 to 9, 11, 15 and 16; a unit gives 10 and 12 to 14 as well. */
 enum {
     RP_ACCEPTED = 0,
     RP_SHEET_ENDS = 1,      /* the sheet ends inside a number or before one that is due */
@@ -45,7 +46,7 @@ enum {
     RP_WRONG_KIND = 3,      /* the kind is not the one this call takes */
     RP_WRONG_UNIT = 4,      /* the unit number differs */
     RP_WRONG_TENANCY = 5,   /* not rented, or the tenancy differs */
-    RP_OUT_OF_RANGE = 6,    /* a count or value is out of its range */
+    RP_OUT_OF_RANGE = 6,    /* a count is out of its range, or a writer's tenancy or lists are wrong */
     RP_NO_COPY = 7,         /* a block has no copies */
     RP_NOT_RISING = 8,      /* a disk or block is not above the one before it */
     RP_BYTES_FOLLOW = 9,    /* bytes follow the last field */
@@ -53,7 +54,9 @@ enum {
     RP_NO_ROOM = 11,        /* the result is longer than the lent buffer */
     RP_RENTED = 12,         /* rent while rented */
     RP_NOT_ABOVE = 13,      /* rent not above the last tenancy */
-    RP_NOT_THE_TENANT = 14  /* return while not rented, or of another tenancy */
+    RP_NOT_THE_TENANT = 14, /* return while not rented, or of another tenancy */
+    RP_BAD_AMOUNT = 15,     /* a cost, load, delay or plan time is out of its range */
+    RP_BAD_INDEX = 16       /* a disk or block number is out of its range */
 };
 
 /* The limits of document 01. */
@@ -79,8 +82,9 @@ enum {
  * Refused, in this order, with out unchanged:
  *   6   the tenancy is 0; the three lengths are not equal, or not a multiple of 4
  *   6   the number of disks is not 1 to 64
- *   6   disk by disk: a cost not 1 to 1,000,000, a load above 100,000,000, a delay above 1,000,000
- *   11  the sheet is longer than out_len (the exact length is enough)
+ *   15  disk by disk: a cost not 1 to 1,000,000, a load above 100,000,000, a delay above 1,000,000
+ *   11  the sheet is longer than out_len; rp_place of the answer is its length, which is then enough
+ * rp_place of the others is 0: there is no sheet yet.
  */
 uint64_t rp_write_settings(uint32_t unit, uint32_t tenancy,
     const uint8_t *costs, size_t costs_len, const uint8_t *loads, size_t loads_len,
@@ -96,8 +100,9 @@ uint64_t rp_write_settings(uint32_t unit, uint32_t tenancy,
  * Refused, in this order, with out unchanged:
  *   6   the tenancy is 0; copies_len is not a multiple of 8
  *   6   disks is not 1 to 64, for no blocks as well; more than 1,024 blocks
- *   7, 6   block by block: 7 no bit is set; 6 more than 8 bits are, or one at N or above
- *   11  the sheet is longer than out_len (the exact length is enough)
+ *   7, 6, 16   block by block: 7 no bit is set; 6 more than 8 bits are; 16 one at N or above is
+ *   11  the sheet is longer than out_len; rp_place of the answer is its length, which is then enough
+ * rp_place of the others is 0: there is no sheet yet.
  */
 uint64_t rp_write_request(uint32_t unit, uint32_t tenancy, uint32_t disks,
     const uint8_t *copies, size_t copies_len, uint8_t *out, size_t out_len);
@@ -108,17 +113,20 @@ uint64_t rp_write_request(uint32_t unit, uint32_t tenancy, uint32_t disks,
  * Accepted: rp_blocks, rp_time and rp_short_size of the answer are Q, R and m; disks begins with the
  * disk of each block, a byte each; short_set with the m blocks of the short set, rising, 2 bytes each.
  * All else in both lists is what it was. An odd last byte of short_set is not used.
- * Refused, by the first field of the sheet that is wrong, with both lists unchanged:
- *   1, 2   at any number: 1 the sheet ends inside it or before it; 2 it is not in shortest form or is
- *          too large; both come before the number's own checks
- *   3   the kind is not 3
+ * Refused, by the first field of the sheet that is wrong, with both lists unchanged. rp_place of the
+ * answer is the first byte of the number refused, but where another is told:
+ *   1, 2   at any number: 1 the sheet ends inside it or before it, and the place is the sheet's length;
+ *          2 it is not in shortest form or is too large; both come before the number's own checks
+ *   3   the kind is not 3; the place is 0
  *   4   the unit is another
  *   5   the tenancy is another, or the tenancy expected is 0
- *   6   Q above 1,024; R not 1 to 1,125,000,000, or not 0 where Q is 0; a disk above 63; m not 1 to Q,
- *       or not 0 where Q is 0; a block of the short set not below Q
- *   8   a block of the short set is not above the one before it
- *   9   bytes follow the last field
- *   11  disks_len is below Q, or short_set_len below 2 m
+ *   6   Q above 1,024; m not 1 to Q, or not 0 where Q is 0
+ *   15  R not 1 to 1,125,000,000, or not 0 where Q is 0
+ *   16  a disk above 63; a block of the short set not below Q
+ *   8   a block of the short set is not above the one before it; the place is that of the one not above
+ *   9   bytes follow the last field; the place is that of the first of them
+ *   11  disks_len is below Q, or short_set_len below 2 m; rp_place is then no place but the entries
+ *       needed: Q where disks is too short, else m (an entry of short_set has 2 bytes)
  */
 uint64_t rp_read_plan(uint32_t unit, uint32_t tenancy, const uint8_t *sheet, size_t sheet_len,
     uint8_t *disks, size_t disks_len, uint8_t *short_set, size_t short_set_len);
@@ -133,6 +141,15 @@ const char *rp_version(void);
 static inline unsigned rp_refusal(uint64_t answer)
 {
     return (unsigned)(answer & 0xFFu);
+}
+
+/*
+ * Any refusal, bits 32 to 63: the place, counted from 0. With 11 (RP_NO_ROOM) it is what was needed: the length of a
+ * writer's sheet, the entries of the plan reader's list. A writer's other refusals have place 0.
+ */
+static inline uint32_t rp_place(uint64_t answer)
+{
+    return (uint32_t)(answer >> 32);
 }
 
 /* A writer's acceptance, bits 32 to 63: the length written. */
@@ -191,7 +208,7 @@ static inline const char *rp_refusal_words(unsigned refusal)
     case RP_WRONG_KIND: return "the kind is not the one this call takes";
     case RP_WRONG_UNIT: return "the unit number differs";
     case RP_WRONG_TENANCY: return "not rented, or the tenancy differs";
-    case RP_OUT_OF_RANGE: return "a count or value is out of its range";
+    case RP_OUT_OF_RANGE: return "a count is out of its range, or a writer's tenancy or lists are wrong";
     case RP_NO_COPY: return "a block has no copies";
     case RP_NOT_RISING: return "a disk or block is not above the one before it";
     case RP_BYTES_FOLLOW: return "bytes follow the last field";
@@ -200,6 +217,8 @@ static inline const char *rp_refusal_words(unsigned refusal)
     case RP_RENTED: return "rent while rented";
     case RP_NOT_ABOVE: return "rent not above the last tenancy";
     case RP_NOT_THE_TENANT: return "return while not rented, or of another tenancy";
+    case RP_BAD_AMOUNT: return "a cost, load, delay or plan time is out of its range";
+    case RP_BAD_INDEX: return "a disk or block number is out of its range";
     default: return "not a refusal of this version";
     }
 }

@@ -1,19 +1,16 @@
 //! The bench program: one hire, one settings sheet, one read request, one line.
 
 use crate::number::Reader;
-use crate::refusal::{Refusal, RANGE};
+use crate::refusal::{Refused, RANGE};
 use crate::sheets::{read_plan, LONGEST_PLAN, LONGEST_REQUEST};
 use crate::unit::Unit;
 
-/// The line for an input, without its line feed.
+/// The line for an input, without its line feed; a refusal shows no place.
 pub fn line(input: &[u8]) -> String {
-    match run(input) {
-        Ok(line) => line,
-        Err(Refusal(number)) => format!("refused {number}"),
-    }
+    run(input).unwrap_or_else(|found| found.refusal.to_string())
 }
 
-fn run(input: &[u8]) -> Result<String, Refusal> {
+fn run(input: &[u8]) -> Result<String, Refused> {
     let mut reader = Reader::new(input);
     let number = reader.number()?;
     let tenancy = reader.number()?;
@@ -27,16 +24,13 @@ fn run(input: &[u8]) -> Result<String, Refusal> {
 }
 
 /// A length, then so many bytes.
-fn lent_sheet<'a>(reader: &mut Reader<'a>) -> Result<&'a [u8], Refusal> {
-    let length = reader.number()?;
-    if length > LONGEST_REQUEST {
-        return Err(RANGE);
-    }
+fn lent_sheet<'a>(reader: &mut Reader<'a>) -> Result<&'a [u8], Refused> {
+    let length = reader.within(0, LONGEST_REQUEST, RANGE)?;
     reader.take(length as usize)
 }
 
 /// The fields parted by single spaces.
-fn show(sheet: &[u8], unit: u32, tenancy: u32) -> Result<String, Refusal> {
+fn show(sheet: &[u8], unit: u32, tenancy: u32) -> Result<String, Refused> {
     let plan = read_plan(sheet, unit, tenancy)?;
     let mut words = vec!["plan".to_string()];
     words
@@ -91,6 +85,11 @@ mod tests {
         assert_eq!(
             line(&[&set[..], &[4, 2, 7, 1, 0]].concat()),
             "plan 7 1 0 0 | |"
+        );
+        assert_eq!(line(&[7, 1, 7, 1, 7, 1, 1, 0, 0, 1]), "refused 15");
+        assert_eq!(
+            line(&[&set[..], &[6, 2, 7, 1, 1, 1, 1]].concat()),
+            "refused 16"
         );
         assert_eq!(line(&[&set[..], &[4, 2, 7, 2, 0]].concat()), "refused 5");
     }

@@ -4,7 +4,7 @@ use std::io::{BufRead, Write};
 
 use crate::hex;
 use crate::model::Disk;
-use crate::refusal::{Refusal, NO_ROOM, RANGE};
+use crate::refusal::{Refused, NO_ROOM, RANGE};
 use crate::sheets::{read_plan, write_request, write_settings};
 
 /// What every byte of a lent buffer is before the call.
@@ -67,22 +67,28 @@ fn plan(words: &[&str]) -> Option<String> {
     let mut set: Vec<u8> = vec![FILL; set_room.parse().ok()?];
     let head = match read_into(&hex::read(sheet)?, unit, tenancy, &mut disks, &mut set) {
         Ok((blocks, time, size)) => format!("plan {blocks} {time} {size}"),
-        Err(Refusal(number)) => format!("refused {number}"),
+        Err(refused) => refused.to_string(),
     };
     Some(format!("{head} {} {}", hex::word(&disks), hex::word(&set)))
 }
 
-/// The plan reader over lent lists of bytes; an odd last byte of the second is not used.
+/// The plan reader over lent lists of bytes; an odd last byte of the second is not used. 11 tells the entries of the
+/// first list too short.
 fn read_into(
     sheet: &[u8],
     unit: u32,
     tenancy: u32,
     disks: &mut [u8],
     set: &mut [u8],
-) -> Result<(usize, u32, usize), Refusal> {
+) -> Result<(usize, u32, usize), Refused> {
     let plan = read_plan(sheet, unit, tenancy)?;
-    if plan.disks.len() > disks.len() || plan.short.len() > set.len() / 2 {
-        return Err(NO_ROOM);
+    for (needed, room) in [
+        (plan.disks.len(), disks.len()),
+        (plan.short.len(), set.len() / 2),
+    ] {
+        if needed > room {
+            return Err(NO_ROOM.at(needed));
+        }
     }
     disks[..plan.disks.len()].copy_from_slice(&plan.disks);
     for (place, block) in set.chunks_exact_mut(2).zip(&plan.short) {
@@ -92,10 +98,10 @@ fn read_into(
 }
 
 /// Three lists of 32-bit numbers, lowest byte first; unequal or broken lists get 6.
-fn rows(lists: &[Vec<u8>; 3]) -> Result<Vec<Disk>, Refusal> {
+fn rows(lists: &[Vec<u8>; 3]) -> Result<Vec<Disk>, Refused> {
     let [costs, loads, delays] = lists;
     if costs.len() != loads.len() || costs.len() != delays.len() || !costs.len().is_multiple_of(4) {
-        return Err(RANGE);
+        return Err(RANGE.nowhere());
     }
     let read = |list: &[u8], at: usize| {
         u32::from_le_bytes([list[at], list[at + 1], list[at + 2], list[at + 3]])
@@ -109,9 +115,9 @@ fn rows(lists: &[Vec<u8>; 3]) -> Result<Vec<Disk>, Refusal> {
 }
 
 /// A list of 64-bit numbers, lowest byte first; a broken list gets 6.
-fn masks(list: &[u8]) -> Result<Vec<u64>, Refusal> {
+fn masks(list: &[u8]) -> Result<Vec<u64>, Refused> {
     if !list.len().is_multiple_of(8) {
-        return Err(RANGE);
+        return Err(RANGE.nowhere());
     }
     let read = |bytes: &[u8]| {
         bytes
@@ -123,14 +129,14 @@ fn masks(list: &[u8]) -> Result<Vec<u64>, Refusal> {
 }
 
 /// The answer of a writer and the whole lent buffer after the call.
-fn wrote(sheet: Result<Vec<u8>, Refusal>, room: usize) -> String {
+fn wrote(sheet: Result<Vec<u8>, Refused>, room: usize) -> String {
     let mut buffer = vec![FILL; room];
     let head = match sheet {
         Ok(sheet) => {
             buffer[..sheet.len()].copy_from_slice(&sheet);
             format!("wrote {}", sheet.len())
         }
-        Err(Refusal(number)) => format!("refused {number}"),
+        Err(refused) => refused.to_string(),
     };
     format!("{head} {}", hex::word(&buffer))
 }
@@ -147,20 +153,20 @@ mod tests {
         );
         assert_eq!(
             answer("settings 6 7 5 04000000 02000000 01000000"),
-            "refused 11 a5a5a5a5a5a5"
+            "refused 11 7 a5a5a5a5a5a5"
         );
         assert_eq!(
             answer("settings 1 7 5 040000 020000 010000"),
-            "refused 6 a5"
+            "refused 6 0 a5"
         );
-        assert_eq!(answer("settings 0 7 5 - - -"), "refused 6 -");
+        assert_eq!(answer("settings 0 7 5 - - -"), "refused 6 0 -");
         assert_eq!(
             answer("request 7 7 5 2 0300000000000000"),
             "wrote 7 02070501020001"
         );
         assert_eq!(answer("request 4 7 5 2 -"), "wrote 4 02070500");
-        assert_eq!(answer("request 0 7 5 2 0000000000000000"), "refused 7 -");
-        assert_eq!(answer("request 0 7 5 2 03"), "refused 6 -");
+        assert_eq!(answer("request 0 7 5 2 0000000000000000"), "refused 7 0 -");
+        assert_eq!(answer("request 0 7 5 2 03"), "refused 6 0 -");
     }
 
     #[test]
@@ -171,13 +177,19 @@ mod tests {
         );
         assert_eq!(
             answer("plan 7 5 2 1 0307050109020100"),
-            "refused 11 a5a5 a5"
+            "refused 11 1 a5a5 a5"
         );
         assert_eq!(
             answer("plan 7 5 0 9 0307050109020100"),
-            "refused 11 - a5a5a5a5a5a5a5a5a5"
+            "refused 11 1 - a5a5a5a5a5a5a5a5a5"
         );
-        assert_eq!(answer("plan 7 0 0 0 030700"), "refused 5 - -");
+        assert_eq!(answer("plan 7 0 0 0 030700"), "refused 5 2 - -");
         assert_eq!(answer("plan 7 5 0 0 030705000000"), "plan 0 0 0 - -");
+        let three = "0307050309000102020002";
+        for (rooms, needed) in [("2 4", 3), ("3 3", 2), ("2 3", 3), ("0 0", 3), ("9 0", 2)] {
+            let found = answer(&format!("plan 7 5 {rooms} {three}"));
+            assert!(found.starts_with(&format!("refused 11 {needed} ")));
+        }
+        assert!(answer(&format!("plan 7 5 3 4 {three}")).starts_with("plan 3 9 2 "));
     }
 }

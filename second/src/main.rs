@@ -95,7 +95,9 @@ fn run_input(program: &str, seed: &str, index: &str) -> Result<(), String> {
     let bytes = match program {
         "bench" => compare::bench_input(&inputs::bench::systematic(), seed, index),
         "shelf" => compare::shelf_stream(&inputs::shelf::systematic(), seed, index).concat(),
-        "desk" => (inputs::desk::line(seed, index) + "\n").into_bytes(),
+        "desk" => {
+            (compare::desk_line(&inputs::desk::systematic(), seed, index) + "\n").into_bytes()
+        }
         _ => return Err(USAGE.to_string()),
     };
     io::stdout()

@@ -1,6 +1,6 @@
 //! Numbers on a sheet: groups of seven bits, lowest group first.
 
-use crate::refusal::{Refusal, ENDS, FORM, RANGE, TRAILING};
+use crate::refusal::{Refusal, Refused, ENDS, FORM, TRAILING};
 
 /// What one more byte makes of a number.
 pub enum Step {
@@ -32,55 +32,72 @@ impl Groups {
     }
 }
 
-/// Bytes read from left to right.
+/// Bytes read from left to right, and where the number last read begins.
 pub struct Reader<'a> {
-    rest: &'a [u8],
+    bytes: &'a [u8],
+    at: usize,
+    begins: usize,
 }
 
 impl<'a> Reader<'a> {
     pub fn new(bytes: &'a [u8]) -> Self {
-        Reader { rest: bytes }
+        Reader {
+            bytes,
+            at: 0,
+            begins: 0,
+        }
     }
 
-    /// The next number, or 1, or 2.
-    pub fn number(&mut self) -> Result<u32, Refusal> {
+    /// The next number, or 1 at the end of the bytes, or 2.
+    pub fn number(&mut self) -> Result<u32, Refused> {
+        self.begins = self.at;
         let mut groups = Groups::default();
-        while let Some((&byte, rest)) = self.rest.split_first() {
-            self.rest = rest;
+        while let Some(&byte) = self.bytes.get(self.at) {
+            self.at += 1;
             match groups.push(byte) {
                 Step::More => {}
                 Step::Done(value) => return Ok(value),
-                Step::Bad => return Err(FORM),
+                Step::Bad => return Err(self.refuse(FORM)),
             }
         }
-        Err(ENDS)
+        Err(ENDS.at(self.bytes.len()))
     }
 
-    /// The next number, which has to be one of low to high, or 6.
-    pub fn within(&mut self, low: u32, high: u32) -> Result<u32, Refusal> {
+    /// A refusal of the number last read, at its first byte.
+    pub fn refuse(&self, refusal: Refusal) -> Refused {
+        refusal.at(self.begins)
+    }
+
+    /// A refusal at the byte that comes next, be there one or not.
+    pub fn refuse_next(&self, refusal: Refusal) -> Refused {
+        refusal.at(self.at)
+    }
+
+    /// The next number, which has to be one of low to high.
+    pub fn within(&mut self, low: u32, high: u32, otherwise: Refusal) -> Result<u32, Refused> {
         let value = self.number()?;
         if value < low || value > high {
-            return Err(RANGE);
+            return Err(self.refuse(otherwise));
         }
         Ok(value)
     }
 
     /// The next bytes as they stand, or 1.
-    pub fn take(&mut self, length: usize) -> Result<&'a [u8], Refusal> {
-        if length > self.rest.len() {
-            return Err(ENDS);
+    pub fn take(&mut self, length: usize) -> Result<&'a [u8], Refused> {
+        if length > self.bytes.len() - self.at {
+            return Err(ENDS.at(self.bytes.len()));
         }
-        let (taken, rest) = self.rest.split_at(length);
-        self.rest = rest;
+        let taken = &self.bytes[self.at..self.at + length];
+        self.at += length;
         Ok(taken)
     }
 
-    /// Nothing may be left, or 9.
-    pub fn finish(&self) -> Result<(), Refusal> {
-        if self.rest.is_empty() {
+    /// Nothing may be left, or 9 at the first extra byte.
+    pub fn finish(&self) -> Result<(), Refused> {
+        if self.at == self.bytes.len() {
             Ok(())
         } else {
-            Err(TRAILING)
+            Err(self.refuse_next(TRAILING))
         }
     }
 }
@@ -107,7 +124,7 @@ mod tests {
     use super::*;
 
     fn read(bytes: &[u8]) -> Result<u32, Refusal> {
-        Reader::new(bytes).number()
+        Reader::new(bytes).number().map_err(|found| found.refusal)
     }
 
     #[test]
@@ -131,6 +148,19 @@ mod tests {
     }
 
     #[test]
+    fn places_of_1_2_and_9() {
+        let mut reader = Reader::new(&[5, 0xAC, 2, 0x80, 0x80, 0, 7]);
+        assert_eq!(reader.number(), Ok(5));
+        assert_eq!(reader.number(), Ok(300));
+        assert_eq!(reader.finish(), Err(TRAILING.at(3)));
+        assert_eq!(reader.number(), Err(FORM.at(3)));
+        let mut reader = Reader::new(&[5, 0xAC, 0x82]);
+        assert_eq!(reader.number(), Ok(5));
+        assert_eq!(reader.number(), Err(ENDS.at(3)));
+        assert_eq!(Reader::new(&[]).number(), Err(ENDS.at(0)));
+    }
+
+    #[test]
     fn what_is_written_is_read() {
         for bit in 0..32 {
             for value in [(1u32 << bit) - 1, 1 << bit, (1 << bit) + 1] {
@@ -147,8 +177,7 @@ mod tests {
                 let bytes = [first, second, 1];
                 let mut reader = Reader::new(&bytes);
                 if let Ok(value) = reader.number() {
-                    let used = bytes.len() - reader.rest.len();
-                    assert_eq!(shortest(value), bytes[..used]);
+                    assert_eq!(shortest(value), bytes[..reader.at]);
                 }
             }
         }

@@ -164,10 +164,10 @@ mod tests {
 
     #[test]
     fn another_answer_is_named() {
-        let run = "unit 7\nrent 300 -> refused 12\n";
+        let run = "unit 7\nrent 300 -> refused 12 0\n";
         assert_eq!(
             stream(run),
-            Err("rent 300 -> refused 12\nfound: rented".to_string())
+            Err("rent 300 -> refused 12 0\nfound: rented".to_string())
         );
     }
 

@@ -11,15 +11,15 @@ pub const LONGEST_REQUEST: u32 = 9_229;
 pub const LONGEST_PLAN: usize = 2_964;
 
 /// Kind, unit and tenancy; tenancy 0 stands for none, and then every number gets 5.
-fn read_head(reader: &mut Reader, kind: u32, unit: u32, tenancy: u32) -> Result<(), Refusal> {
+fn read_head(reader: &mut Reader, kind: u32, unit: u32, tenancy: u32) -> Result<(), Refused> {
     if reader.number()? != kind {
-        return Err(KIND);
+        return Err(reader.refuse(KIND));
     }
     if reader.number()? != unit {
-        return Err(OTHER_UNIT);
+        return Err(reader.refuse(OTHER_UNIT));
     }
     if reader.number()? != tenancy || tenancy == 0 {
-        return Err(OTHER_TENANCY);
+        return Err(reader.refuse(OTHER_TENANCY));
     }
     Ok(())
 }
@@ -33,23 +33,23 @@ fn write_head(kind: u32, unit: u32, tenancy: u32) -> Vec<u8> {
 }
 
 /// A number of low to high that is above the one before it, if there is one.
-fn read_rising(reader: &mut Reader, high: u32, before: Option<u32>) -> Result<u32, Refusal> {
-    let value = reader.within(0, high)?;
+fn read_rising(reader: &mut Reader, high: u32, before: Option<u32>) -> Result<u32, Refused> {
+    let value = reader.within(0, high, NO_SUCH)?;
     if before.is_some_and(|before| value <= before) {
-        return Err(NOT_RISING);
+        return Err(reader.refuse(NOT_RISING));
     }
     Ok(value)
 }
 
-pub fn read_settings(sheet: &[u8], unit: u32, tenancy: u32) -> Result<Vec<Disk>, Refusal> {
+pub fn read_settings(sheet: &[u8], unit: u32, tenancy: u32) -> Result<Vec<Disk>, Refused> {
     let mut reader = Reader::new(sheet);
     read_head(&mut reader, SETTINGS, unit, tenancy)?;
-    let count = reader.within(1, MOST_DISKS)?;
+    let count = reader.within(1, MOST_DISKS, RANGE)?;
     let mut disks = Vec::new();
     for _ in 0..count {
-        let cost = reader.within(1, MOST_COST)?;
-        let load = reader.within(0, MOST_LOAD)?;
-        let delay = reader.within(0, MOST_DELAY)?;
+        let cost = reader.within(1, MOST_COST, VALUE)?;
+        let load = reader.within(0, MOST_LOAD, VALUE)?;
+        let delay = reader.within(0, MOST_DELAY, VALUE)?;
         disks.push(Disk { cost, load, delay });
     }
     reader.finish()?;
@@ -62,13 +62,13 @@ pub fn read_request(
     unit: u32,
     tenancy: u32,
     disks: u32,
-) -> Result<Vec<u64>, Refusal> {
+) -> Result<Vec<u64>, Refused> {
     let mut reader = Reader::new(sheet);
     read_head(&mut reader, REQUEST, unit, tenancy)?;
     if disks == 0 {
-        return Err(NO_SETTINGS);
+        return Err(reader.refuse_next(NO_SETTINGS));
     }
-    let count = reader.within(0, MOST_BLOCKS)?;
+    let count = reader.within(0, MOST_BLOCKS, RANGE)?;
     let copies = (0..count)
         .map(|_| read_copies(&mut reader, disks))
         .collect::<Result<_, _>>()?;
@@ -76,13 +76,13 @@ pub fn read_request(
     Ok(copies)
 }
 
-fn read_copies(reader: &mut Reader, disks: u32) -> Result<u64, Refusal> {
+fn read_copies(reader: &mut Reader, disks: u32) -> Result<u64, Refused> {
     let count = reader.number()?;
     if count == 0 {
-        return Err(NO_COPY);
+        return Err(reader.refuse(NO_COPY));
     }
     if count > MOST_COPIES {
-        return Err(RANGE);
+        return Err(reader.refuse(RANGE));
     }
     let (mut copies, mut before) = (0, None);
     for _ in 0..count {
@@ -93,17 +93,17 @@ fn read_copies(reader: &mut Reader, disks: u32) -> Result<u64, Refusal> {
     Ok(copies)
 }
 
-pub fn read_plan(sheet: &[u8], unit: u32, tenancy: u32) -> Result<Plan, Refusal> {
+pub fn read_plan(sheet: &[u8], unit: u32, tenancy: u32) -> Result<Plan, Refused> {
     let mut reader = Reader::new(sheet);
     read_head(&mut reader, PLAN, unit, tenancy)?;
-    let count = reader.within(0, MOST_BLOCKS)?;
+    let count = reader.within(0, MOST_BLOCKS, RANGE)?;
     let some = count.min(1);
-    let time = reader.within(some, some * MOST_TIME)?;
+    let time = reader.within(some, some * MOST_TIME, VALUE)?;
     let mut disks = Vec::new();
     for _ in 0..count {
-        disks.push(reader.within(0, MOST_DISKS - 1)? as u8);
+        disks.push(reader.within(0, MOST_DISKS - 1, NO_SUCH)? as u8);
     }
-    let size = reader.within(some, count)?;
+    let size = reader.within(some, count, RANGE)?;
     let (mut short, mut before) = (Vec::new(), None);
     for _ in 0..size {
         let block = read_rising(&mut reader, count - 1, before)?;
@@ -114,15 +114,15 @@ pub fn read_plan(sheet: &[u8], unit: u32, tenancy: u32) -> Result<Plan, Refusal>
     Ok(Plan { time, disks, short })
 }
 
-/// A sheet of at most the room's length, or 11.
-fn fitting(sheet: Vec<u8>, room: usize) -> Result<Vec<u8>, Refusal> {
+/// A sheet of at most the room's length, or 11 with the length that was needed.
+fn fitting(sheet: Vec<u8>, room: usize) -> Result<Vec<u8>, Refused> {
     if sheet.len() > room {
-        return Err(NO_ROOM);
+        return Err(NO_ROOM.at(sheet.len()));
     }
     Ok(sheet)
 }
 
-pub fn write_plan(unit: u32, tenancy: u32, plan: &Plan, room: usize) -> Result<Vec<u8>, Refusal> {
+pub fn write_plan(unit: u32, tenancy: u32, plan: &Plan, room: usize) -> Result<Vec<u8>, Refused> {
     let mut out = write_head(PLAN, unit, tenancy);
     write(&mut out, plan.disks.len() as u32);
     write(&mut out, plan.time);
@@ -136,16 +136,17 @@ pub fn write_plan(unit: u32, tenancy: u32, plan: &Plan, room: usize) -> Result<V
     fitting(out, room)
 }
 
-fn in_range(value: u32, low: u32, high: u32) -> Result<u32, Refusal> {
+/// A value of a writer; it is on no sheet yet, so it has no place.
+fn in_range(value: u32, low: u32, high: u32, otherwise: Refusal) -> Result<u32, Refused> {
     if value < low || value > high {
-        return Err(RANGE);
+        return Err(otherwise.nowhere());
     }
     Ok(value)
 }
 
 /// A count that may be wider than a number on a sheet.
-fn count_in_range(count: usize, low: u32, high: u32) -> Result<u32, Refusal> {
-    in_range(u32::try_from(count).map_err(|_| RANGE)?, low, high)
+fn count_in_range(count: usize, low: u32, high: u32) -> Result<u32, Refused> {
+    in_range(u32::try_from(count).unwrap_or(u32::MAX), low, high, RANGE)
 }
 
 /// The desk's settings writer; the three lists come one row a disk.
@@ -154,14 +155,14 @@ pub fn write_settings(
     tenancy: u32,
     disks: &[Disk],
     room: usize,
-) -> Result<Vec<u8>, Refusal> {
-    in_range(tenancy, 1, u32::MAX)?;
+) -> Result<Vec<u8>, Refused> {
+    in_range(tenancy, 1, u32::MAX, RANGE)?;
     let mut out = write_head(SETTINGS, unit, tenancy);
     write(&mut out, count_in_range(disks.len(), 1, MOST_DISKS)?);
     for disk in disks {
-        write(&mut out, in_range(disk.cost, 1, MOST_COST)?);
-        write(&mut out, in_range(disk.load, 0, MOST_LOAD)?);
-        write(&mut out, in_range(disk.delay, 0, MOST_DELAY)?);
+        write(&mut out, in_range(disk.cost, 1, MOST_COST, VALUE)?);
+        write(&mut out, in_range(disk.load, 0, MOST_LOAD, VALUE)?);
+        write(&mut out, in_range(disk.delay, 0, MOST_DELAY, VALUE)?);
     }
     fitting(out, room)
 }
@@ -173,9 +174,9 @@ pub fn write_request(
     disks: u32,
     copies: &[u64],
     room: usize,
-) -> Result<Vec<u8>, Refusal> {
-    in_range(tenancy, 1, u32::MAX)?;
-    in_range(disks, 1, MOST_DISKS)?;
+) -> Result<Vec<u8>, Refused> {
+    in_range(tenancy, 1, u32::MAX, RANGE)?;
+    in_range(disks, 1, MOST_DISKS, RANGE)?;
     let mut out = write_head(REQUEST, unit, tenancy);
     write(&mut out, count_in_range(copies.len(), 0, MOST_BLOCKS)?);
     for &block in copies {
@@ -184,14 +185,14 @@ pub fn write_request(
     fitting(out, room)
 }
 
-fn write_copies(out: &mut Vec<u8>, disks: u32, copies: u64) -> Result<(), Refusal> {
+fn write_copies(out: &mut Vec<u8>, disks: u32, copies: u64) -> Result<(), Refused> {
     let held = disks_of(copies);
     if held.is_empty() {
-        return Err(NO_COPY);
+        return Err(NO_COPY.nowhere());
     }
     let count = count_in_range(held.len(), 1, MOST_COPIES)?;
     if held.iter().any(|&disk| disk >= disks as usize) {
-        return Err(RANGE);
+        return Err(NO_SUCH.nowhere());
     }
     write(out, count);
     for disk in held {
@@ -227,7 +228,7 @@ mod tests {
         assert_eq!(sheet.len(), LONGEST_PLAN);
         assert_eq!(
             write_plan(u32::MAX, u32::MAX, &plan, LONGEST_PLAN - 1),
-            Err(NO_ROOM)
+            Err(NO_ROOM.at(LONGEST_PLAN))
         );
         assert_eq!(read_plan(&sheet, u32::MAX, u32::MAX), Ok(plan));
     }
@@ -263,29 +264,33 @@ mod tests {
         let write = |tenancy, disks: &[Disk], room| {
             write_settings(7, tenancy, disks, room).map(|sheet| sheet.len())
         };
-        assert_eq!(write(0, &[row(1, 0, 0)], 0), Err(RANGE));
-        assert_eq!(write(1, &[], 0), Err(RANGE));
-        assert_eq!(write(1, &[row(1, 0, 0); 65], 0), Err(RANGE));
+        assert_eq!(write(0, &[row(1, 0, 0)], 0), Err(RANGE.at(0)));
+        assert_eq!(write(0, &[row(0, 0, 0)], 0), Err(RANGE.at(0)));
+        assert_eq!(write(1, &[], 0), Err(RANGE.at(0)));
+        assert_eq!(write(1, &[row(0, 0, 0); 65], 0), Err(RANGE.at(0)));
         for bad in [
             row(0, 0, 0),
             row(1_000_001, 0, 0),
             row(1, 100_000_001, 0),
             row(1, 0, 1_000_001),
         ] {
-            assert_eq!(write(1, &[row(1, 0, 0), bad], 0), Err(RANGE));
+            assert_eq!(write(1, &[row(1, 0, 0), bad], 0), Err(VALUE.at(0)));
         }
-        assert_eq!(write(1, &[row(1, 0, 0)], 6), Err(NO_ROOM));
+        assert_eq!(write(1, &[row(1, 0, 0)], 0), Err(NO_ROOM.at(7)));
+        assert_eq!(write(1, &[row(1, 0, 0)], 6), Err(NO_ROOM.at(7)));
         assert_eq!(write(1, &[row(1, 0, 0)], 7), Ok(7));
         let write = |disks, copies: &[u64], room| {
             write_request(7, 1, disks, copies, room).map(|sheet| sheet.len())
         };
-        assert_eq!(write(0, &[], 10), Err(RANGE));
-        assert_eq!(write(65, &[], 10), Err(RANGE));
-        assert_eq!(write(64, &[1; 1_025], 10), Err(RANGE));
-        assert_eq!(write(3, &[0, 8], 0), Err(NO_COPY));
-        assert_eq!(write(3, &[8, 0], 0), Err(RANGE));
-        assert_eq!(write(64, &[511, 0], 0), Err(RANGE));
-        assert_eq!(write(64, &[510], 12), Err(NO_ROOM));
+        assert_eq!(write(0, &[], 10), Err(RANGE.at(0)));
+        assert_eq!(write(65, &[0], 10), Err(RANGE.at(0)));
+        assert_eq!(write(64, &[0; 1_025], 10), Err(RANGE.at(0)));
+        assert_eq!(write(3, &[0, 8], 0), Err(NO_COPY.at(0)));
+        assert_eq!(write(3, &[8, 0], 0), Err(NO_SUCH.at(0)));
+        assert_eq!(write(3, &[511, 8], 0), Err(RANGE.at(0)));
+        assert_eq!(write(3, &[8, 511], 0), Err(NO_SUCH.at(0)));
+        assert_eq!(write(64, &[511, 0], 0), Err(RANGE.at(0)));
+        assert_eq!(write(64, &[510], 12), Err(NO_ROOM.at(13)));
         assert_eq!(write(64, &[510], 13), Ok(13));
     }
 }

@@ -55,7 +55,7 @@ fn call(unit: &mut Unit, kind: u32, input: &mut impl BufRead) -> Result<String, 
             .map(|()| "returned".to_string()),
         _ => return Err(KIND),
     };
-    Ok(answer.unwrap_or_else(|Refusal(number)| format!("refused {number}")))
+    Ok(answer.unwrap_or_else(|refused| refused.to_string()))
 }
 
 /// The next byte; a read error counts as the end.
@@ -113,8 +113,36 @@ mod tests {
             3, 8, 6, 2, 7, 5, 1, 1, 2, 3, 7, 6, 2, 7, 5, 1, 1, 2, 4, 5, 1, 5, 4, 5,
         ]);
         let answer =
-            "rented\nset\nplan 030705010a020100\nrefused 11\nreturned\nrefused 13\nrefused 14\n";
+            "rented\nset\nplan 030705010a020100\nrefused 11 8\nreturned\nrefused 13 0\nrefused 14 0\n";
         assert_eq!(text(&stream), answer);
+    }
+
+    #[test]
+    fn every_refusal_has_a_place() {
+        let set = [7, 1, 5, 2, 7, 1, 7, 5, 1, 4, 0, 1];
+        let after = |call: &[u8]| {
+            let all = text(&[&set[..], call].concat());
+            all.lines().last().unwrap().to_string()
+        };
+        assert_eq!(after(&[1, 6]), "refused 12 0");
+        assert_eq!(after(&[4, 6]), "refused 14 0");
+        assert_eq!(after(&[2, 0]), "refused 1 0");
+        assert_eq!(after(&[2, 1, 2]), "refused 3 0");
+        assert_eq!(after(&[2, 3, 1, 0x87, 0]), "refused 2 1");
+        assert_eq!(after(&[2, 2, 1, 8]), "refused 4 1");
+        assert_eq!(after(&[2, 3, 1, 7, 6]), "refused 5 2");
+        assert_eq!(after(&[2, 4, 1, 7, 5, 65]), "refused 6 3");
+        assert_eq!(after(&[2, 5, 1, 7, 5, 1, 0]), "refused 15 4");
+        assert_eq!(after(&[2, 8, 1, 7, 5, 1, 4, 0, 1, 0]), "refused 9 7");
+        assert_eq!(after(&[3, 9, 5, 2, 7, 5, 1, 0]), "refused 7 4");
+        assert_eq!(after(&[3, 9, 5, 2, 7, 5, 1, 9]), "refused 6 4");
+        assert_eq!(after(&[3, 9, 6, 2, 7, 5, 1, 1, 1]), "refused 16 5");
+        assert_eq!(after(&[3, 9, 7, 2, 7, 5, 1, 2, 0, 0]), "refused 8 6");
+        assert_eq!(after(&[3, 5, 4, 2, 7, 5, 0]), "refused 11 6");
+        assert_eq!(
+            text(&[7, 3, 9, 4, 2, 7, 5, 0, 1, 5, 3, 9, 3, 2, 7, 5]),
+            "refused 5 2\nrented\nrefused 10 3\n"
+        );
     }
 
     #[test]
@@ -131,6 +159,6 @@ mod tests {
         assert_eq!(text(&[7, 2, 0x8D, 0x48]), "stopped 1\n");
         assert_eq!(text(&[7, 3, 0x81, 0x20]), "stopped 6\n");
         assert_eq!(text(&[7, 3, 0x80, 0x20]), "stopped 1\n");
-        assert_eq!(text(&[7, 3, 0x80, 0x20, 0]), "refused 1\n");
+        assert_eq!(text(&[7, 3, 0x80, 0x20, 0]), "refused 1 0\n");
     }
 }

@@ -2,7 +2,7 @@
 
 use crate::model::Disk;
 use crate::planner;
-use crate::refusal::{Refusal, NOT_ABOVE, NOT_RETURNED, RENTED};
+use crate::refusal::{Refused, NOT_ABOVE, NOT_RETURNED, RENTED};
 use crate::sheets::{read_request, read_settings, write_plan};
 
 /// A unit; an empty table means no settings yet.
@@ -37,33 +37,33 @@ impl Unit {
         }
     }
 
-    pub fn rent(&mut self, tenancy: u32) -> Result<(), Refusal> {
+    pub fn rent(&mut self, tenancy: u32) -> Result<(), Refused> {
         if self.rented {
-            return Err(RENTED);
+            return Err(RENTED.nowhere());
         }
         if tenancy <= self.last {
-            return Err(NOT_ABOVE);
+            return Err(NOT_ABOVE.nowhere());
         }
         self.rented = true;
         self.last = tenancy;
         Ok(())
     }
 
-    pub fn settings(&mut self, sheet: &[u8]) -> Result<(), Refusal> {
+    pub fn settings(&mut self, sheet: &[u8]) -> Result<(), Refused> {
         self.disks = read_settings(sheet, self.number, self.tenancy())?;
         Ok(())
     }
 
     /// The plan sheet, if it fits the room.
-    pub fn request(&self, sheet: &[u8], room: usize) -> Result<Vec<u8>, Refusal> {
+    pub fn request(&self, sheet: &[u8], room: usize) -> Result<Vec<u8>, Refused> {
         let copies = read_request(sheet, self.number, self.tenancy(), self.disks())?;
         let plan = planner::plan(&self.disks, &copies);
         write_plan(self.number, self.tenancy(), &plan, room)
     }
 
-    pub fn give_back(&mut self, tenancy: u32) -> Result<(), Refusal> {
+    pub fn give_back(&mut self, tenancy: u32) -> Result<(), Refused> {
         if !self.rented || tenancy != self.last {
-            return Err(NOT_RETURNED);
+            return Err(NOT_RETURNED.nowhere());
         }
         self.rented = false;
         self.disks.clear();
@@ -81,11 +81,11 @@ mod tests {
     #[test]
     fn a_hire() {
         let mut unit = Unit::new(7);
-        assert_eq!(unit.rent(0), Err(NOT_ABOVE));
-        assert_eq!(unit.settings(&SETTINGS), Err(OTHER_TENANCY));
+        assert_eq!(unit.rent(0), Err(NOT_ABOVE.at(0)));
+        assert_eq!(unit.settings(&SETTINGS), Err(OTHER_TENANCY.at(2)));
         assert_eq!(unit.rent(5), Ok(()));
-        assert_eq!(unit.rent(4), Err(RENTED));
-        assert_eq!(unit.request(&[2, 7, 5], 99), Err(NO_SETTINGS));
+        assert_eq!(unit.rent(4), Err(RENTED.at(0)));
+        assert_eq!(unit.request(&[2, 7, 5], 99), Err(NO_SETTINGS.at(3)));
         assert_eq!(unit.settings(&SETTINGS), Ok(()));
         assert_eq!(
             unit.request(&[2, 7, 5, 1, 1, 2], 9),
@@ -95,14 +95,14 @@ mod tests {
             unit.request(&[2, 7, 5, 1, 1, 2], 8),
             Ok(vec![3, 7, 5, 1, 10, 2, 1, 0])
         );
-        assert_eq!(unit.request(&[2, 7, 5, 1, 1, 2], 7), Err(NO_ROOM));
+        assert_eq!(unit.request(&[2, 7, 5, 1, 1, 2], 7), Err(NO_ROOM.at(8)));
         assert_eq!(unit.request(&[2, 7, 5, 0], 6), Ok(vec![3, 7, 5, 0, 0, 0]));
-        assert_eq!(unit.give_back(4), Err(NOT_RETURNED));
+        assert_eq!(unit.give_back(4), Err(NOT_RETURNED.at(0)));
         assert_eq!(unit.give_back(5), Ok(()));
-        assert_eq!(unit.give_back(5), Err(NOT_RETURNED));
-        assert_eq!(unit.request(&[2, 7, 5], 99), Err(OTHER_TENANCY));
-        assert_eq!(unit.request(&[2, 8], 99), Err(OTHER_UNIT));
-        assert_eq!(unit.rent(5), Err(NOT_ABOVE));
+        assert_eq!(unit.give_back(5), Err(NOT_RETURNED.at(0)));
+        assert_eq!(unit.request(&[2, 7, 5], 99), Err(OTHER_TENANCY.at(2)));
+        assert_eq!(unit.request(&[2, 8], 99), Err(OTHER_UNIT.at(1)));
+        assert_eq!(unit.rent(5), Err(NOT_ABOVE.at(0)));
         assert_eq!(unit.rent(6), Ok(()));
         let mut fresh = Unit::new(7);
         assert_eq!(fresh.rent(6), Ok(()));
@@ -115,8 +115,8 @@ mod tests {
         unit.rent(5).unwrap();
         unit.settings(&SETTINGS).unwrap();
         unit.settings(&[1, 7, 5, 1, 4, 0, 1]).unwrap();
-        assert_eq!(unit.request(&[2, 7, 5, 1, 1, 1], 99), Err(RANGE));
-        assert_eq!(unit.settings(&[1, 7, 5, 1, 9, 9]), Err(ENDS));
+        assert_eq!(unit.request(&[2, 7, 5, 1, 1, 1], 99), Err(NO_SUCH.at(5)));
+        assert_eq!(unit.settings(&[1, 7, 5, 1, 9, 9]), Err(ENDS.at(6)));
         assert_eq!(
             unit.request(&[2, 7, 5, 1, 1, 0], 99),
             Ok(vec![3, 7, 5, 1, 5, 0, 1, 0])
@@ -128,6 +128,6 @@ mod tests {
         let mut unit = Unit::new(0);
         unit.rent(u32::MAX).unwrap();
         unit.give_back(u32::MAX).unwrap();
-        assert_eq!(unit.rent(u32::MAX), Err(NOT_ABOVE));
+        assert_eq!(unit.rent(u32::MAX), Err(NOT_ABOVE.at(0)));
     }
 }

@@ -2,7 +2,6 @@
 
 use crate::hex;
 use crate::model::{disks_of, Disk, Plan};
-use crate::refusal::Refusal;
 use crate::sheets::{read_plan, read_request, read_settings};
 
 /// How many vectors hold, or the first that does not.
@@ -41,7 +40,7 @@ fn outcome(vector: &str) -> Option<String> {
         ("plan", &[unit, tenancy]) => read_plan(&sheet, unit, tenancy).map(|plan| show_plan(&plan)),
         _ => return None,
     };
-    Some(result.unwrap_or_else(|Refusal(number)| format!("refused {number}")))
+    Some(result.unwrap_or_else(|refused| refused.to_string()))
 }
 
 fn join<T: ToString>(list: &[T], by: &str) -> String {

@@ -1,6 +1,6 @@
 /*
  * The three exported functions in text, a line out for each line in, in the format of the second
- * program's `desk` (second/README.md), so that both can be given the same lines:
+ * program's `desk` (second/README.md), a refusal as `refused N P`, so that both can be given the same lines:
  *   second compare desk COUNT SEED deskline
  * Lent buffers are filled with a5 and shown whole; a byte changed beside one adds the word `damaged`.
  */
@@ -66,14 +66,21 @@ static bool room_of(struct span word, uint32_t *room)
     return number_of(word, room) && *room <= MOST_ROOM;
 }
 
+/* Prints a refusal with its place; an answer that is none, since it has other bits, as it is. */
+static void show_refused(uint64_t answer)
+{
+    if (rp_refusal(answer) != RP_ACCEPTED && (answer & 0xFFFFFF00u) == 0)
+        printf("refused %u %u", rp_refusal(answer), (unsigned)rp_place(answer));
+    else
+        printf("answer %llx", (unsigned long long)answer);
+}
+
 static void show_wrote(uint64_t answer, struct lent *out)
 {
     if (rp_refusal(answer) == RP_ACCEPTED && (answer & 0xFFFFFFFFu) == 0)
         printf("wrote %u", (unsigned)rp_length(answer));
-    else if (answer == rp_refusal(answer))
-        printf("refused %u", rp_refusal(answer));
     else
-        printf("answer %llx", (unsigned long long)answer);
+        show_refused(answer);
     show_lent(out);
 }
 
@@ -120,10 +127,8 @@ static void show_plan(uint64_t answer)
     if (rp_refusal(answer) == RP_ACCEPTED && answer >> 61 == 0)
         printf("plan %u %u %u", (unsigned)rp_blocks(answer), (unsigned)rp_time(answer),
             (unsigned)rp_short_size(answer));
-    else if (answer == rp_refusal(answer))
-        printf("refused %u", rp_refusal(answer));
     else
-        printf("answer %llx", (unsigned long long)answer);
+        show_refused(answer);
 }
 
 /* UNIT TENANCY DISKROOM SETROOM SHEET */

@@ -2,10 +2,10 @@
  * The three exported functions from C, with guards around every lent buffer. Each test is a line `ok NAME` or
  * `FAILED NAME: why`, and the last line is `end of the tests`; the status is 1 if any failed.
  *
- * The bytes and numbers expected are document 01's samples, or follow from its ranges by hand. A call is made three
- * times, on buffers that stand: between guards, where every byte is held against what it has to be; in blocks of memory
- * of the exact length, where the address sanitizer and valgrind see a byte too far; and right before a closed page,
- * where a byte too far, read or written, ends the program.
+ * The bytes and numbers expected are document 01's samples, or follow from its ranges and the places of document 02 by
+ * hand. A call is made three times, on buffers that stand: between guards, where every byte is held against what it
+ * has to be; in blocks of memory of the exact length, where the address sanitizer and valgrind see a byte too far; and
+ * right before a closed page, where a byte too far, read or written, ends the program.
  */
 #define _DEFAULT_SOURCE
 #include <stdbool.h>
@@ -157,6 +157,18 @@ static struct list *sheet_of(const char *hex)
     return sheet;
 }
 
+/* The answer of a refusal: its number in bits 0 to 7, its place in bits 32 to 63, and nothing else. */
+static uint64_t at(unsigned refusal, uint32_t place)
+{
+    return refusal + place * (uint64_t)4294967296u;
+}
+
+/* The answer where there is no room: the bytes or entries that were needed stand in the place. */
+static uint64_t needs(uint32_t length)
+{
+    return at(RP_NO_ROOM, length);
+}
+
 /* ---- settings ---- */
 
 static struct list costs, loads, delays;
@@ -173,8 +185,8 @@ static void add_row(uint32_t cost, uint32_t load, uint32_t delay)
     add_wide(&delays, delay, 4);
 }
 
-/* One call on the rows as they stand; a null sheet is expected to be refused. */
-static void settings(const char *name, uint32_t unit, uint32_t tenancy, size_t room, unsigned refusal,
+/* One call on the rows as they stand; a null sheet is expected to be refused with this answer (6 alone has place 0). */
+static void settings(const char *name, uint32_t unit, uint32_t tenancy, size_t room, uint64_t refusal,
     const struct list *sheet)
 {
     struct lent c = lend_list(&costs), l = lend_list(&loads), d = lend_list(&delays), out = lend_room(room);
@@ -205,8 +217,8 @@ static void settings_sample(void)
     settings("settings: the document's sample, exact fit", 7, 300, 14, 0, sheet);
     settings("settings: one byte more stays as it was", 7, 300, 15, 0, sheet);
     settings("settings: a long buffer stays as it was beyond", 7, 300, 652, 0, sheet);
-    settings("settings: one byte less is 11", 7, 300, 13, 11, NULL);
-    settings("settings: no room is 11", 7, 300, 0, 11, NULL);
+    settings("settings: one byte less is 11, and 14 were needed", 7, 300, 13, needs(14), NULL);
+    settings("settings: no room is 11, and 14 were needed", 7, 300, 0, needs(14), NULL);
     settings("settings: tenancy 0 is 6", 7, 0, 652, 6, NULL);
     settings("settings: tenancy 0 is 6 before 11", 7, 0, 0, 6, NULL);
 }
@@ -232,7 +244,8 @@ static void settings_ends(void)
     verdict("settings: the longest sheet is 652 bytes",
         longest.len == 652 && RP_LONGEST_SETTINGS == 652 ? NULL : "it is not");
     settings("settings: 64 disks, the longest sheet, exact fit", 4294967295u, 4294967295u, 652, 0, &longest);
-    settings("settings: the longest sheet, one byte less is 11", 4294967295u, 4294967295u, 651, 11, NULL);
+    settings("settings: the longest sheet, one byte less is 11", 4294967295u, 4294967295u, 651, needs(652), NULL);
+    settings("settings: the longest sheet, 100 bytes is 11", 4294967295u, 4294967295u, 100, needs(652), NULL);
     add_row(1, 0, 0);
     settings("settings: 65 disks is 6", 7, 300, 652, 6, NULL);
     settings("settings: 65 disks is 6 before 11", 7, 300, 0, 6, NULL);
@@ -248,13 +261,22 @@ static void settings_row(const char *name, uint32_t cost, uint32_t load, uint32_
     clear_rows();
     add_row(cost, load, delay);
     add_row(1, 0, 0);
-    snprintf(title, sizeof title, "settings: %s is 6, in the first row", name);
+    snprintf(title, sizeof title, "settings: %s is 15, in the first row", name);
+    settings(title, 7, 300, 652, 15, NULL);
+    snprintf(title, sizeof title, "settings: tenancy 0 is 6 before %s", name);
+    settings(title, 7, 0, 652, 6, NULL);
+    loads.len -= 4;
+    snprintf(title, sizeof title, "settings: a load too few is 6 before %s", name);
     settings(title, 7, 300, 652, 6, NULL);
     clear_rows();
     add_row(1, 0, 0);
     add_row(cost, load, delay);
-    snprintf(title, sizeof title, "settings: %s is 6 before 11, in the last row", name);
-    settings(title, 7, 300, 0, 6, NULL);
+    snprintf(title, sizeof title, "settings: %s is 15 before 11, in the last row", name);
+    settings(title, 7, 300, 0, 15, NULL);
+    while (costs.len < 4 * 65)
+        add_row(cost, load, delay);
+    snprintf(title, sizeof title, "settings: 65 disks is 6 before %s", name);
+    settings(title, 7, 300, 652, 6, NULL);
 }
 
 static void settings_ranges(void)
@@ -303,7 +325,7 @@ static void settings_lengths(void)
 
 static struct list copies;
 
-static void request(const char *name, uint32_t unit, uint32_t tenancy, uint32_t disks, size_t room, unsigned refusal,
+static void request(const char *name, uint32_t unit, uint32_t tenancy, uint32_t disks, size_t room, uint64_t refusal,
     const struct list *sheet)
 {
     struct lent c = lend_list(&copies), out = lend_room(room);
@@ -336,15 +358,17 @@ static void request_sample(void)
     request("request: the document's sample, exact fit", 7, 300, 3, 17, 0, sheet);
     request("request: one byte more stays as it was", 7, 300, 3, 18, 0, sheet);
     request("request: a long buffer stays as it was beyond", 7, 300, 64, 9229, 0, sheet);
-    request("request: one byte less is 11", 7, 300, 3, 16, 11, NULL);
-    request("request: no room is 11", 7, 300, 3, 0, 11, NULL);
+    request("request: one byte less is 11, and 17 were needed", 7, 300, 3, 16, needs(17), NULL);
+    request("request: no room is 11, and 17 were needed", 7, 300, 3, 0, needs(17), NULL);
     request("request: tenancy 0 is 6", 7, 0, 3, 9229, 6, NULL);
     request("request: tenancy 0 is 6 before 11", 7, 0, 3, 0, 6, NULL);
     request("request: N 0 is 6", 7, 300, 0, 9229, 6, NULL);
     request("request: N 65 is 6", 7, 300, 65, 9229, 6, NULL);
     request("request: N 4,294,967,295 is 6", 7, 300, 4294967295u, 9229, 6, NULL);
-    request("request: a disk at N is 6", 7, 300, 2, 9229, 6, NULL);
-    request("request: a disk at N is 6 before 11", 7, 300, 2, 0, 6, NULL);
+    request("request: a disk at N is 16", 7, 300, 2, 9229, 16, NULL);
+    request("request: a disk at N is 16 before 11", 7, 300, 2, 0, 16, NULL);
+    request("request: tenancy 0 is 6 before a disk at N", 7, 0, 2, 9229, 6, NULL);
+    request("request: N 0 is 6 before a disk at N", 7, 300, 0, 9229, 6, NULL);
 }
 
 static void request_no_blocks(void)
@@ -353,7 +377,7 @@ static void request_no_blocks(void)
     copies.len = 0;
     request("request: no blocks, exact fit", 7, 300, 1, 5, 0, sheet);
     request("request: no blocks, 64 disks", 7, 300, 64, 6, 0, sheet);
-    request("request: no blocks, one byte less is 11", 7, 300, 1, 4, 11, NULL);
+    request("request: no blocks, one byte less is 11", 7, 300, 1, 4, needs(5), NULL);
     request("request: no blocks, N 0 is 6", 7, 300, 0, 9229, 6, NULL);
     request("request: no blocks, N 65 is 6", 7, 300, 65, 9229, 6, NULL);
     request("request: no blocks, tenancy 0 is 6", 7, 0, 1, 9229, 6, NULL);
@@ -365,7 +389,7 @@ static void request_copies(void)
 {
     set_copies((uint64_t[]){ 0x8000000000000000u }, 1);
     request("request: disk 63 of 64", 7, 300, 64, 7, 0, sheet_of("02 07 AC 02 01 01 3F"));
-    request("request: disk 63 of 63 is 6", 7, 300, 63, 9229, 6, NULL);
+    request("request: disk 63 of 63 is 16", 7, 300, 63, 9229, 16, NULL);
     set_copies((uint64_t[]){ 0x8000000000000001u }, 1);
     request("request: the first and the last disk", 7, 300, 64, 8, 0, sheet_of("02 07 AC 02 01 02 00 3F"));
     set_copies((uint64_t[]){ 0x8040201008040201u }, 1);
@@ -373,6 +397,8 @@ static void request_copies(void)
         sheet_of("02 07 AC 02 01 08 00 09 12 1B 24 2D 36 3F"));
     set_copies((uint64_t[]){ 0x8040201008040203u }, 1);
     request("request: nine copies is 6", 7, 300, 64, 9229, 6, NULL);
+    request("request: nine copies, one of them at N, is 6 before 16", 7, 300, 63, 9229, 6, NULL);
+    request("request: nine copies, eight of them at N or above, is 6 before 16", 7, 300, 1, 9229, 6, NULL);
     set_copies((uint64_t[]){ UINT64_MAX }, 1);
     request("request: all 64 copies is 6", 7, 300, 64, 9229, 6, NULL);
     set_copies((uint64_t[]){ 1, 0 }, 2);
@@ -381,9 +407,13 @@ static void request_copies(void)
     request("request: N 0 is 6 before 7", 7, 300, 0, 9229, 6, NULL);
     request("request: tenancy 0 is 6 before 7", 7, 0, 3, 9229, 6, NULL);
     set_copies((uint64_t[]){ 0, 8 }, 2);
-    request("request: the first block's 7 before the second's 6", 7, 300, 3, 9229, 7, NULL);
+    request("request: the first block's 7 before the second's 16", 7, 300, 3, 9229, 7, NULL);
     set_copies((uint64_t[]){ 8, 0 }, 2);
-    request("request: the first block's 6 before the second's 7", 7, 300, 3, 9229, 6, NULL);
+    request("request: the first block's 16 before the second's 7", 7, 300, 3, 9229, 16, NULL);
+    set_copies((uint64_t[]){ 8, 511 }, 2);
+    request("request: the first block's 16 before the second's 6", 7, 300, 3, 9229, 16, NULL);
+    set_copies((uint64_t[]){ 511, 8 }, 2);
+    request("request: the first block's 6 before the second's 16", 7, 300, 3, 9229, 6, NULL);
 }
 
 static void request_lengths(void)
@@ -412,7 +442,7 @@ static void request_longest(void)
     verdict("request: the longest sheet is 9,229 bytes",
         longest.len == 9229 && RP_LONGEST_REQUEST == 9229 ? NULL : "it is not");
     request("request: 1,024 blocks, the longest sheet, exact fit", 4294967295u, 4294967295u, 64, 9229, 0, &longest);
-    request("request: the longest sheet, one byte less is 11", 4294967295u, 4294967295u, 64, 9228, 11, NULL);
+    request("request: the longest sheet, one byte less is 11", 4294967295u, 4294967295u, 64, 9228, needs(9229), NULL);
     add_wide(&copies, 1, 8);
     request("request: 1,025 blocks is 6", 7, 300, 64, 9229, 6, NULL);
     request("request: 1,025 blocks is 6 before 11", 7, 300, 64, 0, 6, NULL);
@@ -427,7 +457,7 @@ struct plan {
 };
 
 static void plan(const char *name, uint32_t unit, uint32_t tenancy, const struct list *sheet, size_t disk_room,
-    size_t set_room, unsigned refusal, const struct plan *read)
+    size_t set_room, uint64_t refusal, const struct plan *read)
 {
     struct lent s = lend_list(sheet), disks = lend_room(disk_room), set = lend_room(set_room);
     uint64_t expected = read == NULL ? refusal
@@ -448,12 +478,6 @@ static void plan(const char *name, uint32_t unit, uint32_t tenancy, const struct
     give_back(&set);
 }
 
-/* A sheet in hex that is refused, with long lists. */
-static void refused_plan(const char *name, const char *hex, unsigned refusal)
-{
-    plan(name, 7, 300, sheet_of(hex), 1024, 2048, refusal, NULL);
-}
-
 static const char SAMPLE[] = "03 07 AC 02 04 09 00 00 01 01 04 00 01 02 03";
 
 static void plan_sample(void)
@@ -468,19 +492,19 @@ static void plan_sample(void)
     plan("plan: longer lists stay as they were beyond", 7, 300, &sample, 9, 20, 0, &read);
     plan("plan: an odd last byte is not used, exact fit", 7, 300, &sample, 4, 9, 0, &read);
     plan("plan: an odd last byte is not used, longer list", 7, 300, &sample, 5, 13, 0, &read);
-    plan("plan: an odd last byte does not count: 7 bytes for 4 blocks is 11", 7, 300, &sample, 4, 7, 11, NULL);
-    plan("plan: one disk less is 11", 7, 300, &sample, 3, 8, 11, NULL);
-    plan("plan: one block less of the short set is 11", 7, 300, &sample, 4, 6, 11, NULL);
-    plan("plan: no lists is 11", 7, 300, &sample, 0, 0, 11, NULL);
-    plan("plan: no list of disks is 11", 7, 300, &sample, 0, 8, 11, NULL);
-    plan("plan: a list of one byte for the short set is 11", 7, 300, &sample, 4, 1, 11, NULL);
-    plan("plan: another unit is 4", 8, 300, &sample, 4, 8, 4, NULL);
-    plan("plan: another tenancy is 5", 7, 301, &sample, 4, 8, 5, NULL);
-    plan("plan: tenancy 0 expected is 5", 7, 0, &sample, 4, 8, 5, NULL);
+    plan("plan: an odd last byte does not count: 7 bytes for 4 blocks is 11", 7, 300, &sample, 4, 7, needs(4), NULL);
+    plan("plan: one disk less is 11", 7, 300, &sample, 3, 8, needs(4), NULL);
+    plan("plan: one block less of the short set is 11", 7, 300, &sample, 4, 6, needs(4), NULL);
+    plan("plan: no lists is 11", 7, 300, &sample, 0, 0, needs(4), NULL);
+    plan("plan: no list of disks is 11", 7, 300, &sample, 0, 8, needs(4), NULL);
+    plan("plan: a list of one byte for the short set is 11", 7, 300, &sample, 4, 1, needs(4), NULL);
+    plan("plan: another unit is 4, at byte 1", 8, 300, &sample, 4, 8, at(4, 1), NULL);
+    plan("plan: another tenancy is 5, at byte 2", 7, 301, &sample, 4, 8, at(5, 2), NULL);
+    plan("plan: tenancy 0 expected is 5, at byte 2", 7, 0, &sample, 4, 8, at(5, 2), NULL);
     for (size_t len = 0; len < 15; len++) {
         sample.len = len;
-        snprintf(title, sizeof title, "plan: the sample cut to %zu bytes is 1", len);
-        plan(title, 7, 300, &sample, 4, 8, 1, NULL);
+        snprintf(title, sizeof title, "plan: the sample cut to %zu bytes is 1, at its length", len);
+        plan(title, 7, 300, &sample, 4, 8, at(1, (uint32_t)len), NULL);
     }
 }
 
@@ -512,60 +536,142 @@ static void plan_ends(void)
     verdict("plan: the longest sheet is 2,964 bytes",
         sheet.len == 2964 && RP_LONGEST_PLAN == 2964 ? NULL : "it is not");
     plan("plan: 1,024 blocks, the longest sheet, exact fit", 4294967295u, 4294967295u, &sheet, 1024, 2048, 0, &one);
-    plan("plan: the longest sheet, one disk less is 11", 4294967295u, 4294967295u, &sheet, 1023, 2048, 11, NULL);
-    plan("plan: the longest sheet, one byte less of the set is 11", 4294967295u, 4294967295u, &sheet, 1024, 2047, 11,
+    plan("plan: the longest sheet, one disk less is 11", 4294967295u, 4294967295u, &sheet, 1023, 2048, needs(1024),
         NULL);
+    plan("plan: the longest sheet, one byte less of the set is 11", 4294967295u, 4294967295u, &sheet, 1024, 2047,
+        needs(1024), NULL);
+    add(&sheet, 0);
+    plan("plan: a byte after the longest sheet is 9, at byte 2,964", 4294967295u, 4294967295u, &sheet, 0, 0,
+        at(9, 2964), NULL);
+    sheet.at[2963] = 0x80 | sheet.at[2963];
+    sheet.len = 2964;
+    plan("plan: the longest sheet, cut inside its last number, is 1, at byte 2,964", 4294967295u, 4294967295u, &sheet,
+        1024, 2048, at(1, 2964), NULL);
+    sheet.len = 2963;
+    plan("plan: the longest sheet, cut before its last byte, is 1, at byte 2,963", 4294967295u, 4294967295u, &sheet,
+        1024, 2048, at(1, 2963), NULL);
 }
 
-/* Fields in turn: the sample of one block, with one of its numbers in a long form. */
-static void plan_forms(void)
+/*
+ * Damaged plans of unit 7 and tenancy 300. The places are counted by hand: the kind is byte 0, the unit byte 1, the
+ * tenancy bytes 2 and 3, Q byte 4, R byte 5 on.
+ */
+static const struct {
+    const char *name, *hex;
+    unsigned refusal;
+    uint32_t place;
+} DAMAGED[] = {
+    /* 1, at the sheet's length: before each number, and inside each */
+    { "no bytes", "", 1, 0 },
+    { "the end inside the kind", "83", 1, 1 },
+    { "the end before the unit", "03", 1, 1 },
+    { "the end inside the unit", "03 87", 1, 2 },
+    { "the end before the tenancy", "03 07", 1, 2 },
+    { "the end inside the tenancy", "03 07 AC", 1, 3 },
+    { "the end before Q", "03 07 AC 02", 1, 4 },
+    { "the end inside Q", "03 07 AC 02 80", 1, 5 },
+    { "the end before R", "03 07 AC 02 02", 1, 5 },
+    { "the end inside R", "03 07 AC 02 02 C0 C6 B8", 1, 8 },
+    { "the end before a disk", "03 07 AC 02 02 09 00", 1, 7 },
+    { "the end inside a disk", "03 07 AC 02 02 09 00 80", 1, 8 },
+    { "the end before m", "03 07 AC 02 02 09 00 01", 1, 8 },
+    { "the end inside m", "03 07 AC 02 02 09 00 01 82", 1, 9 },
+    { "the end before a block", "03 07 AC 02 02 09 00 01 02 00", 1, 10 },
+    { "the end inside a block", "03 07 AC 02 02 09 00 01 02 00 81", 1, 11 },
+    { "four bytes of a number", "03 07 FF FF FF FF", 1, 6 },
+    { "the end before R, where Q is 0", "03 07 AC 02 00", 1, 5 },
+    { "the end before m, where Q is 0", "03 07 AC 02 00 00", 1, 6 },
+    /* 2, at the number's first byte, though a later one shows it */
+    { "a long form of the kind", "83 00 07 AC 02 01 05 01 01 00", 2, 0 },
+    { "a long form of the unit", "03 87 00 AC 02 01 05 01 01 00", 2, 1 },
+    { "a long form of the tenancy", "03 07 AC 82 00 01 05 01 01 00", 2, 2 },
+    { "a long form of Q", "03 07 AC 02 81 00 05 01 01 00", 2, 4 },
+    { "a long form of R", "03 07 AC 02 01 85 00 01 01 00", 2, 5 },
+    { "a long form of a disk", "03 07 AC 02 01 05 81 00 01 00", 2, 6 },
+    { "a long form of a later disk", "03 07 AC 02 02 AC 02 01 81 80 00 01 00", 2, 8 },
+    { "a long form of m", "03 07 AC 02 01 05 01 81 00 00", 2, 7 },
+    { "a long form of a block", "03 07 AC 02 01 05 01 01 80 00", 2, 8 },
+    { "a long form of a later block", "03 07 AC 02 02 05 01 01 02 00 81 80 80 00", 2, 10 },
+    { "a number above the largest", "03 07 FF FF FF FF 10", 2, 2 },
+    { "a fifth byte of 128, though the sheet ends", "03 07 FF FF FF FF 80", 2, 2 },
+    { "a disk above the largest number is not 16", "03 07 AC 02 01 05 FF FF FF FF 7F 01 00", 2, 6 },
+    { "a time above the largest number is not 15", "03 07 AC 02 01 80 80 80 80 10 01 01 00", 2, 5 },
+    /* 3, 4 and 5 */
+    { "kind 0", "00", 3, 0 },
+    { "a settings sheet", "01 07 AC 02 03 04 00 01 03 02 00 0A 00 00", 3, 0 },
+    { "a request", "02 07 AC 02 00", 3, 0 },
+    { "kind 4", "04 07 AC 02 00 00 00", 3, 0 },
+    { "kind 300", "AC 02 07 AC 02 00 00 00", 3, 0 },
+    { "another unit, though the sheet ends", "03 08", 4, 1 },
+    { "another unit, of two bytes", "03 AC 02 AC 02 00 00 00", 4, 1 },
+    { "another tenancy, though the sheet ends", "03 07 05", 5, 2 },
+    { "the largest tenancy is another one", "03 07 FF FF FF FF 0F", 5, 2 },
+    { "tenancy 0", "03 07 00 00 00 00", 5, 2 },
+    /* 6, a count: Q and m */
+    { "Q 1,025", "03 07 AC 02 81 08", 6, 4 },
+    { "Q 4,294,967,295", "03 07 AC 02 FF FF FF FF 0F", 6, 4 },
+    { "m 0 with blocks", "03 07 AC 02 01 05 01 00", 6, 7 },
+    { "m above Q", "03 07 AC 02 01 05 01 02 00 01", 6, 7 },
+    { "m above Q, behind a time of two bytes", "03 07 AC 02 02 AC 02 01 01 03 00 01", 6, 9 },
+    { "m 1 without blocks", "03 07 AC 02 00 00 01 00", 6, 6 },
+    /* 15, the time */
+    { "R 0 with blocks", "03 07 AC 02 01 00 01 01 00", 15, 5 },
+    { "R 1,125,000,001", "03 07 AC 02 01 C1 C6 B8 98 04 01 01 00", 15, 5 },
+    { "R 4,294,967,295", "03 07 AC 02 01 FF FF FF FF 0F 01 01 00", 15, 5 },
+    { "R 1 without blocks", "03 07 AC 02 00 01 00", 15, 5 },
+    { "R 0 behind a Q of two bytes", "03 07 AC 02 80 01 00", 15, 6 },
+    /* 16, a disk or block */
+    { "disk 64", "03 07 AC 02 01 05 40 01 00", 16, 6 },
+    { "disk 256", "03 07 AC 02 01 05 80 02 01 00", 16, 6 },
+    { "a later disk 64", "03 07 AC 02 02 05 00 40 01 00", 16, 7 },
+    { "disk 64 behind a time of five bytes", "03 07 AC 02 04 C0 C6 B8 98 04 00 00 01 40 04 00 01 02 03", 16, 13 },
+    { "a block at Q", "03 07 AC 02 01 05 01 01 01", 16, 8 },
+    { "a second block at Q", "03 07 AC 02 03 05 01 01 01 02 01 03", 16, 11 },
+    { "a third block above Q, of two bytes", "03 07 AC 02 03 05 01 01 01 03 00 01 83 01", 16, 12 },
+    /* 8, at the block that is not above */
+    { "a block twice", "03 07 AC 02 03 05 01 01 01 02 01 01", 8, 11 },
+    { "a block below the one before", "03 07 AC 02 03 05 01 01 01 02 02 00", 8, 11 },
+    { "a third block below the second", "03 07 AC 02 03 05 01 01 01 03 00 02 01", 8, 12 },
+    /* 9, at the first byte that follows */
+    { "a byte 0 after the last field", "03 07 AC 02 01 05 01 01 00 00", 9, 9 },
+    { "a byte 128 after the last field", "03 07 AC 02 01 05 01 01 00 80", 9, 9 },
+    { "three bytes after the last field", "03 07 AC 02 00 00 00 03 07 AC", 9, 7 },
+};
+
+static void plan_damaged(void)
 {
-    refused_plan("plan: a long form of the kind is 2", "83 00 07 AC 02 01 05 01 01 00", 2);
-    refused_plan("plan: a long form of the unit is 2", "03 87 00 AC 02 01 05 01 01 00", 2);
-    refused_plan("plan: a long form of the tenancy is 2", "03 07 AC 82 00 01 05 01 01 00", 2);
-    refused_plan("plan: a long form of Q is 2", "03 07 AC 02 81 00 05 01 01 00", 2);
-    refused_plan("plan: a long form of R is 2", "03 07 AC 02 01 85 00 01 01 00", 2);
-    refused_plan("plan: a long form of a disk is 2", "03 07 AC 02 01 05 81 00 01 00", 2);
-    refused_plan("plan: a long form of m is 2", "03 07 AC 02 01 05 01 81 00 00", 2);
-    refused_plan("plan: a long form of a block is 2", "03 07 AC 02 01 05 01 01 80 00", 2);
-    refused_plan("plan: a number above the largest is 2", "03 07 FF FF FF FF 10", 2);
-    refused_plan("plan: a fifth byte of 128 is 2, though the sheet ends", "03 07 FF FF FF FF 80", 2);
-    refused_plan("plan: four bytes of a number are 1", "03 07 FF FF FF FF", 1);
-    refused_plan("plan: the largest tenancy is another one", "03 07 FF FF FF FF 0F", 5);
+    char title[96];
+    for (size_t i = 0; i < sizeof DAMAGED / sizeof DAMAGED[0]; i++) {
+        snprintf(title, sizeof title, "plan: %s: %u at byte %u", DAMAGED[i].name, DAMAGED[i].refusal,
+            (unsigned)DAMAGED[i].place);
+        plan(title, 7, 300, sheet_of(DAMAGED[i].hex), 1024, 2048, at(DAMAGED[i].refusal, DAMAGED[i].place), NULL);
+        snprintf(title, sizeof title, "plan: %s: %u before 11", DAMAGED[i].name, DAMAGED[i].refusal);
+        plan(title, 7, 300, sheet_of(DAMAGED[i].hex), 0, 0, at(DAMAGED[i].refusal, DAMAGED[i].place), NULL);
+    }
+    plan("plan: tenancy 0, as expected, is 5", 7, 0, sheet_of("03 07 00 00 00 00"), 0, 0, at(5, 2), NULL);
+    plan("plan: a tenancy in a long form is 2 before 5", 7, 0, sheet_of("03 07 80 00"), 0, 0, at(2, 2), NULL);
+    plan("plan: a tenancy that ends is 1 before 5", 7, 0, sheet_of("03 07 80"), 0, 0, at(1, 3), NULL);
 }
 
-static void plan_fields(void)
+/* A sheet of more than 4,294,967,295 bytes, all but the first 0: its length fits no place, and need not. */
+static void plan_huge(void)
 {
-    refused_plan("plan: kind 0 is 3", "00", 3);
-    refused_plan("plan: a settings sheet is 3", "01 07 AC 02 03 04 00 01 03 02 00 0A 00 00", 3);
-    refused_plan("plan: a request is 3", "02 07 AC 02 00", 3);
-    refused_plan("plan: kind 4 is 3", "04 07 AC 02 00 00 00", 3);
-    refused_plan("plan: another unit is 4, though the sheet ends", "03 08", 4);
-    refused_plan("plan: another tenancy is 5, though the sheet ends", "03 07 05", 5);
-    refused_plan("plan: tenancy 0 is 5", "03 07 00 00 00 00", 5);
-    plan("plan: tenancy 0, as expected, is 5", 7, 0, sheet_of("03 07 00 00 00 00"), 0, 0, 5, NULL);
-    plan("plan: a tenancy in a long form is 2 before 5", 7, 0, sheet_of("03 07 80 00"), 0, 0, 2, NULL);
-    refused_plan("plan: Q 1,025 is 6", "03 07 AC 02 81 08", 6);
-    refused_plan("plan: Q 4,294,967,295 is 6", "03 07 AC 02 FF FF FF FF 0F", 6);
-    refused_plan("plan: R 0 with blocks is 6", "03 07 AC 02 01 00 01 01 00", 6);
-    refused_plan("plan: R 1,125,000,001 is 6", "03 07 AC 02 01 C1 C6 B8 98 04 01 01 00", 6);
-    refused_plan("plan: R 1 without blocks is 6", "03 07 AC 02 00 01 00", 6);
-    refused_plan("plan: disk 64 is 6", "03 07 AC 02 01 05 40 01 00", 6);
-    refused_plan("plan: disk 256 is 6", "03 07 AC 02 01 05 80 02 01 00", 6);
-    refused_plan("plan: a later disk 64 is 6", "03 07 AC 02 02 05 00 40 01 00", 6);
-    refused_plan("plan: m 0 with blocks is 6", "03 07 AC 02 01 05 01 00", 6);
-    refused_plan("plan: m above Q is 6", "03 07 AC 02 01 05 01 02 00 01", 6);
-    refused_plan("plan: m 1 without blocks is 6", "03 07 AC 02 00 00 01 00", 6);
-    refused_plan("plan: a block at Q is 6", "03 07 AC 02 01 05 01 01 01", 6);
-    refused_plan("plan: a second block at Q is 6", "03 07 AC 02 03 05 01 01 01 02 01 03", 6);
-    refused_plan("plan: a block twice is 8", "03 07 AC 02 03 05 01 01 01 02 01 01", 8);
-    refused_plan("plan: a block below the one before is 8", "03 07 AC 02 03 05 01 01 01 02 02 00", 8);
-    refused_plan("plan: a byte 0 after the last field is 9", "03 07 AC 02 01 05 01 01 00 00", 9);
-    refused_plan("plan: a byte 128 after the last field is 9", "03 07 AC 02 01 05 01 01 00 80", 9);
-    plan("plan: 9 before 11", 7, 300, sheet_of("03 07 AC 02 01 05 01 01 00 00"), 0, 0, 9, NULL);
-    plan("plan: 8 before 11", 7, 300, sheet_of("03 07 AC 02 03 05 01 01 01 02 02 00"), 0, 0, 8, NULL);
-    plan("plan: 6 before 11", 7, 300, sheet_of("03 07 AC 02 01 05 01 00"), 0, 0, 6, NULL);
-    plan("plan: 1 before 11", 7, 300, sheet_of("03 07 AC 02 01 05 01 01"), 0, 0, 1, NULL);
+    const size_t len = (size_t)1 << 32 | 99;
+    uint8_t disks[4], set[8];
+    const struct list *sample = sheet_of(SAMPLE);
+    uint8_t *sheet = mmap(NULL, len, PROT_READ | PROT_WRITE, MAP_PRIVATE | MAP_ANONYMOUS | MAP_NORESERVE, -1, 0);
+    if (sheet == MAP_FAILED) {
+        verdict("plan: a sheet above 4 GiB", "there is no address space for it");
+        return;
+    }
+    memcpy(sheet, sample->at, sample->len);
+    verdict("plan: a plan in a sheet above 4 GiB: 9 at byte 15",
+        rp_read_plan(7, 300, sheet, len, disks, 4, set, 8) == at(9, 15) ? NULL : "another answer");
+    sheet[4] = 0x81;
+    sheet[5] = 0x00;
+    verdict("plan: a long form in a sheet above 4 GiB: 2 at byte 4",
+        rp_read_plan(7, 300, sheet, len, disks, 4, set, 8) == at(2, 4) ? NULL : "another answer");
+    munmap(sheet, len);
 }
 
 /* Disks in falling order, and a short set that is a part of the blocks. */
@@ -577,6 +683,12 @@ static void plan_orders(void)
     set = *sheet_of("00 00 02 00");
     plan("plan: disks come in any order, with a part of the blocks short", 7, 300,
         sheet_of("03 07 AC 02 03 AC 02 05 02 02 02 00 02"), 3, 4, 0, &read);
+    plan("plan: of three blocks, no room for their disks: 3 entries", 7, 300,
+        sheet_of("03 07 AC 02 03 AC 02 05 02 02 02 00 02"), 2, 4, needs(3), NULL);
+    plan("plan: of a short set of two, no room for it: 2 entries", 7, 300,
+        sheet_of("03 07 AC 02 03 AC 02 05 02 02 02 00 02"), 3, 3, needs(2), NULL);
+    plan("plan: no room for either: the disks' entries", 7, 300,
+        sheet_of("03 07 AC 02 03 AC 02 05 02 02 02 00 02"), 2, 3, needs(3), NULL);
 }
 
 /* ---- the header ---- */
@@ -586,6 +698,9 @@ static void layouts(void)
     uint64_t sample = 0x0010000000480400u;      /* Q 4, R 9, m 4 */
     uint64_t largest = 0x100218711A040000u;     /* Q 1,024, R 1,125,000,000, m 1,024 */
     verdict("layout: a refusal", rp_refusal(11) == 11 && rp_refusal(0) == 0 ? NULL : "another number");
+    verdict("layout: a place", rp_place(at(16, 11)) == 11 && rp_refusal(at(16, 11)) == 16
+            && at(16, 11) == 0x0000000B00000010u && rp_place(at(11, 4294967295u)) == 4294967295u
+            && rp_refusal(at(11, 4294967295u)) == 11 && rp_place(6) == 0 ? NULL : "another number");
     verdict("layout: a length", rp_length(0x0000000E00000000u) == 14 && rp_refusal(0x0000000E00000000u) == 0
             && rp_length(0xFFFFFFFF00000000u) == 4294967295u ? NULL : "another number");
     verdict("layout: the sample's Q, R and m", rp_blocks(sample) == 4 && rp_time(sample) == 9
@@ -598,16 +713,60 @@ static void layouts(void)
             && rp_time(0x1FFC000000000000u) == 0 ? NULL : "another number");
 }
 
+/* The refusals worked in docs/ABI.md, with its numbers. */
+static void worked(void)
+{
+    static const struct {
+        const char *hex;
+        size_t disks, set;
+        uint64_t answer;
+    } PLANS[] = {
+        { "03 07 AC 02 04 09 00 00 01 40 04 00 01 02 03", 4, 8, 0x0000000900000010u },
+        { "03 07 AC 02 04 00 00 00 01 01 04 00 01 02 03", 4, 8, 0x000000050000000Fu },
+        { "03 07 AC 02 04 09 00 00 01 01 05 00 01 02 03", 4, 8, 0x0000000A00000006u },
+        { "03 07 AC 02 04 09 00 00 01 01 04 00 01 01 03", 4, 8, 0x0000000D00000008u },
+        { "03 07 AC 82 00 04 09 00 00 01 01 04 00 01 02 03", 4, 8, 0x0000000200000002u },
+        { "03 07 AC 02 04 09 00 00 01", 4, 8, 0x0000000900000001u },
+        { "03 07 AC 02 04 09 00 00 01 01 04 00 01 02 03 00", 4, 8, 0x0000000F00000009u },
+        { SAMPLE, 3, 8, 0x000000040000000Bu },
+        { SAMPLE, 3, 7, 0x000000040000000Bu },
+        { SAMPLE, 4, 7, 0x000000040000000Bu },
+    };
+    char title[64];
+    for (size_t i = 0; i < sizeof PLANS / sizeof PLANS[0]; i++) {
+        snprintf(title, sizeof title, "worked: plan %zu", i + 1);
+        plan(title, 7, 300, sheet_of(PLANS[i].hex), PLANS[i].disks, PLANS[i].set, PLANS[i].answer, NULL);
+    }
+    clear_rows();
+    add_row(4, 0, 1);
+    add_row(3, 2, 0);
+    add_row(10, 0, 0);
+    settings("worked: settings, 13 bytes", 7, 300, 13, 0x0000000E0000000Bu, NULL);
+    settings("worked: settings, tenancy 0", 7, 0, 13, 0x0000000000000006u, NULL);
+    loads.len = 8;
+    settings("worked: settings, loads of 8 bytes", 7, 300, 14, 0x0000000000000006u, NULL);
+    loads.len = 12;
+    costs.at[4] = 0;
+    settings("worked: settings, a cost of 0", 7, 300, 13, 0x000000000000000Fu, NULL);
+    set_copies((uint64_t[]){ 3, 3, 3, 6, 0 }, 4);
+    request("worked: request, 16 bytes", 7, 300, 3, 16, 0x000000110000000Bu, NULL);
+    request("worked: request, of 2 disks", 7, 300, 2, 17, 0x0000000000000010u, NULL);
+    set_copies((uint64_t[]){ 3, 3, 3, 6, 0 }, 5);
+    request("worked: request, a fifth block without copies", 7, 300, 3, 17, 0x0000000000000007u, NULL);
+}
+
 static void words(void)
 {
     const char *why = NULL;
-    for (unsigned i = 0; i <= 15; i++)
+    for (unsigned i = 0; i <= 17; i++)
         for (unsigned j = 0; j < i; j++)
             if (strcmp(rp_refusal_words(i), rp_refusal_words(j)) == 0)
                 why = "two have the same";
     verdict("words: every refusal has its own", why);
-    verdict("words: 6 is the document's row",
-        strcmp(rp_refusal_words(6), "a count or value is out of its range") == 0 ? NULL : "it is not");
+    verdict("words: 15 and 16 are the document's",
+        strcmp(rp_refusal_words(RP_BAD_AMOUNT), "a cost, load, delay or plan time is out of its range") == 0
+            && strcmp(rp_refusal_words(RP_BAD_INDEX), "a disk or block number is out of its range") == 0
+            && RP_BAD_AMOUNT == 15 && RP_BAD_INDEX == 16 ? NULL : "they are not");
 }
 
 static void lists(void)
@@ -637,10 +796,11 @@ int main(void)
     request_longest();
     plan_sample();
     plan_ends();
-    plan_forms();
-    plan_fields();
+    plan_damaged();
+    plan_huge();
     plan_orders();
     layouts();
+    worked();
     words();
     lists();
     puts("end of the tests");

@@ -75,7 +75,7 @@ static const char *const LISTS[] = {
 static const char *const SHEETS[] = {
     PLAN "\n",
     "03 07 AC 02 04 09 00 00\n01 01 04 00 01 02 03 # a plan\n",
-    "rented\nset\nplan " PLAN "\nrefused 5\nplan 0307ac02000000\nreturned\nstopped 3\n",
+    "rented\nset\nplan " PLAN "\nrefused 5 2\nplan 0307ac02000000\nreturned\nstopped 3\n",
     "plan 0308ac02000000\nplan " PLAN "\n",
     "00000000: 0307 ac02 0409 0000 0101 0400 0102 03    ...............\n",
     "00000000  03 07 ac 02 04 09 00 00  01 01 04 00 01 02 03     |...............|\n0000000f\n",
@@ -85,8 +85,16 @@ static const char *const SHEETS[] = {
 };
 #define COUNT_OF(list) (sizeof (list) / sizeof (list)[0])
 
-/* Kinds of input: texts, and last the sheets themselves. */
-enum { TABLE, LIST, TEXT_SHEET, BYTE_SHEET, KINDS };
+/* What was sent to a shelf, call by call, and its lines. */
+static const char CALLS_SENT[] = "\x07" "\x01\xAC\x02" "\x03\x0E\x05\x02\x07\xAC\x02\x00"
+    "\x02\x07\x01\x07\xAC\x02\x01\x04\x00" "\x02\x08\x01\x07\xAC\x02\x01\x04\x00\x01"
+    "\x03\x06\x07\x02\x07\xAC\x02\x01\x01\x00" "\x03\x40\x07\x02\x07\xAC\x02\x01\x01\x03"
+    "\x03\x40\x05\x02\x07\xAC\x02\x00" "\x04\xAC\x02";
+static const char LINES[] = "rented\nrefused 10 4\nrefused 1 7\nset\nrefused 11 9\nrefused 16 6\nplan 0307ac02000000\n"
+    "returned\n";
+
+/* Kinds of input: texts, the sheets themselves, and last calls. */
+enum { TABLE, LIST, TEXT_SHEET, BYTE_SHEET, CALLS, KINDS };
 
 /* A sheet as bytes: settings, a request, plans short and long. */
 static void add_bytes(struct bytes *into)
@@ -118,6 +126,10 @@ static void add_good(struct bytes *into, unsigned kind)
         add_bytes(into);
         return;
     }
+    if (kind == CALLS) {
+        bytes_add(into, CALLS_SENT, sizeof CALLS_SENT - 1);
+        return;
+    }
     text = kind == TABLE ? TABLES[chance(COUNT_OF(TABLES))] : kind == LIST ? LISTS[chance(COUNT_OF(LISTS))]
         : SHEETS[chance(COUNT_OF(SHEETS))];
     bytes_add(into, text, strlen(text));
@@ -128,9 +140,10 @@ static void add_good(struct bytes *into, unsigned kind)
 static const char *const PIECES[] = {
     "4294967295", "4294967296", "0", "-1", "63", "64", "65", "1000001", "\"", "\"\"", "#", ",", ";", "\t", "\r", "\n",
     "\r\n", ":", "-", "block 3:", "disk", "cost,load,delay\n", "sep=;\n", "*\n", "00000000: ", "0000010 ",
-    "refused 5\n", "refused 6 7 8\n", "stopped 3\n", "plan ", "plan " PLAN "\n", "rented\n", "\xEF\xBB\xBF",
-    "\xFF\xFE", "\xFE\xFF", "\xC3\xA4", "\x1B[31m", "%s%n", "\x80", "\x80\x00", "\xFF\xFF\xFF\xFF\x0F",
-    "\xFF\xFF\xFF\xFF\x10", "|", "  ", "\x7F", ",,,,,,,,,,,,,,,,,,,,", "1;2;3;4;5;6;7;8;9;10;11;12;13;14;15;16;17;18",
+    "refused 5\n", "refused 16 3\n", "refused 11 15\n", "refused 6 7 8\n", "stopped 3\n", "plan ", "plan " PLAN "\n",
+    "rented\n", "\xEF\xBB\xBF", "\xFF\xFE", "\xFE\xFF", "\xC3\xA4", "\x1B[31m", "%s%n", "\x80", "\x80\x00",
+    "\xFF\xFF\xFF\xFF\x0F", "\xFF\xFF\xFF\xFF\x10", "|", "  ", "\x7F", ",,,,,,,,,,,,,,,,,,,,",
+    "1;2;3;4;5;6;7;8;9;10;11;12;13;14;15;16;17;18",
 };
 
 /* Puts bytes into an input, at a place, for so many that go. */
@@ -199,6 +212,9 @@ static const struct command {
     { tenant_main, { "tenant", "plan", "7", "300", "in", "--by-block" }, TEXT_SHEET, IS_TEXT },
     { tenant_main, { "tenant", "plan", "7", "300", "in", "--nth", "1", "--json" }, TEXT_SHEET, IS_JSON },
     { tenant_main, { "tenant", "plan", "7", "300", "in", "--time" }, BYTE_SHEET, IS_NUMBER },
+    { tenant_main, { "tenant", "plan", "7", "300", "in", "--nth", "1", "--calls", "calls", "--time" }, TEXT_SHEET,
+        IS_NUMBER },
+    { desk_main, { "desk", "show", "lines", "--calls", "in" }, CALLS, IS_STREAM },
     { tenant_main, { "tenant", "plan", "7", "300", "plan", "--disks", "in", "--svg", "picture" }, TABLE, IS_TEXT },
     { tenant_main, { "tenant", "plan", "7", "300", "plan", "--disks", "table", "--request", "in", "--json" }, LIST,
         IS_JSON },
@@ -394,6 +410,8 @@ int main(int count, char **words)
     put_file("table", TABLES[0], strlen(TABLES[0]));
     put_file("list", LISTS[0], strlen(LISTS[0]));
     put_file("plan", PLAN "\n", strlen(PLAN "\n"));
+    put_file("calls", CALLS_SENT, sizeof CALLS_SENT - 1);
+    put_file("lines", LINES, strlen(LINES));
     if (count == 5)
         return try_input(seed, strtoull(words[4], NULL, 10)) ? 0 : 1;
     for (uint64_t i = 0; i < inputs && failures < MOST_FAILURES; i++)

@@ -102,9 +102,10 @@ if [ "$PKG_CONFIG" != none ] && [ "$SECOND" != none ]; then
         && $CC $strict reel.c $($PKG_CONFIG --cflags --libs rippleplank) -o reel && ./reel ask | shelf | ./reel book) >"$OUT/lines" 2>"$OUT/log"
     diff "$here/reel.txt" "$OUT/lines" >>"$OUT/log"
     passed "install: examples/reel.c, with pkg-config alone" $? "$OUT/log"
-    (cd "$OUT/stranger" && { ./reel ask | "$prefix/bin/shelf"; echo refused 6; echo stopped 1; } \
+    (cd "$OUT/stranger" && { ./reel ask | "$prefix/bin/shelf"; echo refused 16 13; echo refused 11 15; echo stopped 1; } \
         | ./reel book >"$OUT/lines" 2>"$OUT/log")
-    [ $? -eq 1 ] && grep -q '^reel: the shelf: refused 6' "$OUT/log" && grep -q '^reel: the shelf stopped' "$OUT/log" \
+    [ $? -eq 1 ] && grep -q '^reel: the shelf: refused 16 (place 13): a disk' "$OUT/log" \
+        && grep -q '^reel: the shelf: refused 11 (needs 15)' "$OUT/log" && grep -q '^reel: the shelf stopped' "$OUT/log" \
         && diff "$here/reel.txt" "$OUT/lines" >>"$OUT/log"
     passed "install: examples/reel.c tells what the shelf refused beside the plan" $? "$OUT/log"
     (cd "$OUT/stranger" && PKG_CONFIG_PATH="$OUT/pre fix/lib/pkgconfig" && export PKG_CONFIG_PATH \

@@ -116,6 +116,20 @@ if [ "$SHELF" != none ]; then
     passed 'hire: the picture' $? "$OUT/log"
 fi
 
+# What the tools read in a sheet that the shelf refused is refused so, at that place: settings and requests, of generated calls
+if [ "$SHELF" != none ] && [ "$SECOND" != none ]; then
+    refusals=0
+    : >"$OUT/log"
+    for index in $(seq 0 40); do
+        "$SECOND" input shelf 7 "$index" >"$OUT/calls"
+        $SHELF <"$OUT/calls" >"$OUT/answers"
+        "$OUT/desk" show "$OUT/answers" --calls "$OUT/calls" 2>&1 >/dev/null | grep -a 'other calls\|Sanitizer' >>"$OUT/log"
+        refusals=$((refusals + $(grep -c '^refused' "$OUT/answers")))
+    done
+    [ ! -s "$OUT/log" ] && [ "$refusals" -ge 1000 ]
+    passed "places: $refusals refusals of the shelf, each at the field that the tools find" $? "$OUT/log"
+fi
+
 # Damaged inputs to the programs
 CC=$CC LIB=$LIB OUT=${make_out#../} FLAGS=$sanitize sh tests/hosts/fuzz.sh "$INPUTS" 1 >"$OUT/log" 2>&1
 passed "fuzz: $INPUTS damaged inputs" $? "$OUT/log"

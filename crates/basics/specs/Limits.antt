@@ -1,4 +1,4 @@
--- The limits of document 01.
+-- The limits of documents 01 and 02.
 --     disksMost, blocksMost, copiesMost        disks of a unit, blocks of a request, copies of a block
 --     costMost, loadMost, delayMost            of one disk
 --     startMost, timeMost                      when a disk starts; the time of a plan
@@ -47,4 +47,4 @@ abbrev pub nodesMost : ℕ
 nodesMost = 1089
 
 abbrev pub refusalsMost : ℕ
-refusalsMost = 14
+refusalsMost = 16

@@ -10,12 +10,11 @@ use lib.ListN.{length, take, drop}
 use Rattle.basics.specs.Limits.{blocksMost, planMost}
 use Rattle.basics.specs.Choice.{pick}
 use Rattle.basics.proofs.Choice.{pick-true, pick-elim}
-use Rattle.basics.proofs.Tests.{and-both}
-use Rattle.field.specs.declared.Refusal.{Refusal}
+use Rattle.field.specs.declared.Fault.{Fault}
 use Rattle.field.specs.declared.Written.the-variants.{Length, Refused as NotWritten}
 use Rattle.field.specs.Field.{number, end}
-use Rattle.field.specs.Refusal.{numberOf}
-use Rattle.field.specs.Sheet.{Out, got, refused, pure}
+use Rattle.field.specs.Refusal.{numberOf, noteOf}
+use Rattle.field.specs.Sheet.{Note, note, Out, got, refused, pure}
 use Rattle.field.proofs.Readers.{end-here, end-extra}
 use Rattle.field.proofs.Sheet.{next, then, stops, halts}
 use Rattle.settings.specs.declared.Table.{Table}
@@ -26,7 +25,7 @@ use Rattle.plan.specs.declared.Answer.the-variants.{Accepted, Refused as NoPlan
 use Rattle.plan.specs.Draft.{planBytes}
 use Rattle.plan.specs.Plan.{Plan, planSheet}
 use Rattle.plan.specs.Range.{InRange}
-use Rattle.plan.specs.Receive.{roomFor, ifRoom, heads, Received}
+use Rattle.plan.specs.Receive.{ifRoom, heads, Received}
 use Rattle.plan.specs.Told.{toldPlan}
 use Rattle.plan.proofs.Longest.{longest}
 use Rattle.basics.proofs.Buffer.{over-within, over-front}
@@ -62,7 +61,7 @@ module _ (s : List ℕ) (at : ℕ) {o : Outcome} (d : Done) (h : told d ≡ o) w
   outcome-taken q =
       ap (λ (x : Outcome). judge (x .verdict) (x .unit) at) (sym h) ∙ ap (λ (v : Verdict). judge (toldVerdict v) (d .unit) at) q
 
-  pub outcome-denied : (e : Refusal) → d .answer ≡ Denied e → accept o s at ≡ refused (numberOf e)
+  pub outcome-denied : (e : Fault) → d .answer ≡ Denied e → accept o s at ≡ refused (noteOf e)
   unfolding accept judge told toldVerdict
   outcome-denied e q =
       ap (λ (x : Outcome). judge (x .verdict) (x .unit) at) (sym h) ∙ ap (λ (v : Verdict). judge (toldVerdict v) (d .unit) at) q
@@ -121,10 +120,10 @@ rented-set {u} s d w h =
 -- ---- each stage of the input
 
 -- a refusal's line
-pub tells-refused : {o : Out Ready} {out after : List ℕ} {n : ℕ} (e : Refusal) → o ≡ refused (numberOf e)
-    → Printed (spoken (Refused (numberOf e))) out n after → Tells o out n after
+pub tells-refused : {o : Out Ready} {out after : List ℕ} {n : ℕ} (e : Fault) → o ≡ refused (noteOf e)
+    → Printed (spoken (Refused (numberOf (e .refusal)))) out n after → Tells o out n after
 unfolding Line
-tells-refused e h p = record { text = spoken (Refused (numberOf e)); says = rw h refl; printed = p }
+tells-refused e h p = record { text = spoken (Refused (numberOf (e .refusal))); says = rw h refl; printed = p }
 
 -- another reader that gives the same
 pub tells-same : {o q : Out Ready} {out after : List ℕ} {n : ℕ} → q ≡ o → Tells o out n after → Tells q out n after
@@ -142,7 +141,7 @@ module _ (u : Unit) (s : List ℕ) (at : ℕ) where
         tells-same e (record { text = w .0; says = w .1; printed = w .2 })
 
     -- input after the second sheet
-    pub close-extra : (to ≡ length s → ⊥) → close u s at ≡ refused 9
+    pub close-extra : (to ≡ length s → ⊥) → close u s at ≡ refused (note 9 to)
     unfolding close
     close-extra q = next sheet _ s at h ∙ halts end _ s to (end-extra s to q)
 
@@ -152,15 +151,15 @@ module _ (u : Unit) (s : List ℕ) (at : ℕ) where
       unfolding apply part
       apply-taken q = next sheet _ s at h ∙ next (accept (set u (part s from to))) _ s to (outcome-taken s to d t q)
 
-      pub apply-denied : (e : Refusal) → d .answer ≡ Denied e → apply u s at ≡ refused (numberOf e)
+      pub apply-denied : (e : Fault) → d .answer ≡ Denied e → apply u s at ≡ refused (noteOf e)
       unfolding apply part
       apply-denied e q = next sheet _ s at h ∙ stops (accept (set u (part s from to))) _ s to (outcome-denied s to d t e q)
 
-  pub close-stops : (n : ℕ) → sheet s at ≡ refused n → close u s at ≡ refused n
+  pub close-stops : (n : Note) → sheet s at ≡ refused n → close u s at ≡ refused n
   unfolding close
   close-stops n h = stops sheet _ s at h
 
-  pub apply-stops : (n : ℕ) → sheet s at ≡ refused n → apply u s at ≡ refused n
+  pub apply-stops : (n : Note) → sheet s at ≡ refused n → apply u s at ≡ refused n
   unfolding apply
   apply-stops n h = stops sheet _ s at h
 
@@ -169,7 +168,7 @@ module _ (n t : ℕ) (s : List ℕ) (at : ℕ) (d : Done) (h : told d ≡ rent (
   unfolding hire
   hire-taken q = next (accept (rent (newUnit n) t)) _ s at (outcome-taken s at d h q)
 
-  pub hire-denied : (e : Refusal) → d .answer ≡ Denied e → hire n t s at ≡ refused (numberOf e)
+  pub hire-denied : (e : Fault) → d .answer ≡ Denied e → hire n t s at ≡ refused (noteOf e)
   unfolding hire
   hire-denied e q = stops (accept (rent (newUnit n) t)) _ s at (outcome-denied s at d h e q)
 
@@ -177,11 +176,11 @@ pub input-hires : (s : List ℕ) (n t e f : ℕ) → number s 0 ≡ got n e → 
 unfolding benchInput
 input-hires s n t e f h k = next number _ s 0 h ∙ next number _ s e k
 
-pub input-no-tenancy : (s : List ℕ) (n e m : ℕ) → number s 0 ≡ got n e → number s e ≡ refused m → benchInput s 0 ≡ refused m
+pub input-no-tenancy : (s : List ℕ) (n e : ℕ) (m : Note) → number s 0 ≡ got n e → number s e ≡ refused m → benchInput s 0 ≡ refused m
 unfolding benchInput
 input-no-tenancy s n e m h k = next number _ s 0 h ∙ stops number _ s e k
 
-pub input-no-unit : (s : List ℕ) (m : ℕ) → number s 0 ≡ refused m → benchInput s 0 ≡ refused m
+pub input-no-unit : (s : List ℕ) (m : Note) → number s 0 ≡ refused m → benchInput s 0 ≡ refused m
 unfolding benchInput
 input-no-unit s m h = stops number _ s 0 h
 
@@ -219,27 +218,26 @@ module _ (unit t : ℕ) (s disks short : List ℕ) where
         ∙ e
 
   -- a plan sheet is never refused
-  pub back-never : (e : Refusal) (disks′ short′ : List ℕ) → Received (planSheet unit t s 0) (length s) disks short (NoPlan e) disks′ short′
+  pub back-never : (e : Fault) (disks′ short′ : List ℕ) → Received (planSheet unit t s 0) (length s) disks short (NoPlan e) disks′ short′
       → unit < 2 ^ 32 → t < 2 ^ 32 → length disks ≡ blocksMost → length short ≡ blocksMost → (p : Plan) → InRange p → 0 < t
       → s ≡ planBytes unit t p → ⊥
-  unfolding toldPlan ifRoom heads roomFor
+  unfolding toldPlan ifRoom heads
   back-never e disks′ short′ w a b m n p r l q =
       let x : planSheet unit t s 0 ≡ got p (length (planBytes unit t p)) = ap (λ (z : List ℕ). planSheet unit t z 0) q
       ∙ sheet-read unit t p a l b r in
-      let room : roomFor p disks short
-      ≡ true = and-both _ _ (le-leb (length (p .disks)) (length disks) (omega (arith, r .few)))
-      (le-leb (length (p .short)) (length short) (omega (arith, r .few, r .size-to))) in
-      let y : refused (numberOf e) ≡ heads (got p (length (planBytes unit t p))) = w .answer
-      ∙ ap (λ (o : Out Plan). heads (ifRoom o disks short)) x ∙ ap heads (pick-true _ _ room) in
+      let y : refused (noteOf e) ≡ heads (got p (length (planBytes unit t p))) = w .answer
+      ∙ ap (λ (o : Out Plan). heads (ifRoom o disks short)) x
+      ∙ ap heads (pick-true _ _ (le-leb (length (p .disks)) (length disks) (omega (arith, r .few)))
+      ∙ pick-true _ _ (le-leb (length (p .short)) (length short) (omega (arith, r .few, r .size-to)))) in
       let z : _≡_ {A = ℕ} 0 1 = cc in
       omega arith
 
 -- ---- the request's answer
 
-unsent : {u : Unit} {s out : List ℕ} {e : Refusal} → planMost ≤ length out → Unsent (u .number) (tenancyOf u) (askedOf u s) out e
-    → Asks u s (spoken (Refused (numberOf e)))
+unsent : {u : Unit} {s out : List ℕ} {e : Fault} → planMost ≤ length out → Unsent (u .number) (tenancyOf u) (askedOf u s) out e
+    → Asks u s (spoken (Refused (numberOf (e .refusal))))
 unfolding answerLine
-unsent {e = e} room (denied w) = record { plan = refused (numberOf e); plans = w; says = refl }
+unsent {e = e} room (denied w) = record { plan = refused (noteOf e); plans = w; says = refl }
 unsent {u} {s} room (longer p i w l q) = absurd (omega (arith, longest (u .number) (tenancyOf u) p (plans-range (askedOf u s) p i w)))
 
 module _ {u : Unit} {s out after : List ℕ} {buf buf′ : List ℕ} {m : ℕ} where
@@ -261,9 +259,9 @@ module _ {u : Unit} {s out after : List ℕ} {buf buf′ : List ℕ} {m : ℕ} w
         g l (w .bytes),
       )
 
-  pub asks-refused : {r : Requested} {e : Refusal} → Replied u s out r after → r .answer ≡ NotWritten e → planMost ≤ length out
-      → Printed (spoken (Refused (numberOf e))) buf m buf′ → Replies u s buf m buf′
-  asks-refused {r} {e} a q room p = (spoken (Refused (numberOf e)), unsent {u = u} room (answered-none (replied-as a q)), p)
+  pub asks-refused : {r : Requested} {e : Fault} → Replied u s out r after → r .answer ≡ NotWritten e → planMost ≤ length out
+      → Printed (spoken (Refused (numberOf (e .refusal)))) buf m buf′ → Replies u s buf m buf′
+  asks-refused {r} {e} a q room p = (spoken (Refused (numberOf (e .refusal))), unsent {u = u} room (answered-none (replied-as a q)), p)
 
 -- ---- there is no second answer
 

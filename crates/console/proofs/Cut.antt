@@ -20,15 +20,16 @@ use Rattle.unit.specs.Life.{Verdict, accepted, rent, set}
 use Rattle.unit.specs.Life.{refused as denied}
 use Rattle.unit.specs.Unit.{newUnit}
 use Rattle.stream.specs.Frame.{sheet}
-use Rattle.stream.proofs.Steady.{Same, number-steady, steady-sheet}
+use Rattle.stream.proofs.Steady.{Wants, Same, number-steady, steady-sheet}
 use Rattle.stream.proofs.Reach.{Far, number-far, sheet-far}
 use Rattle.console.specs.Bench.{inputMost, Ready, judge, accept, close, apply, hire, benchInput}
 
 module _ (s r : List ℕ) where
   -- a reader that does not reach the end of the bytes gives the same with more behind them
   far-same : {A : Type 0} (o q : Out A) (at k w : ℕ) → Same (length s) o q → Far (length s) at k w o → at + w ≤ length s → q ≡ o
-  unfolding Same Far
-  far-same o q at k w (inl h) f l = absurd (let g : length s < at + w = subst (Far (length s) at k w) h f refl in omega arith)
+  unfolding Same Far Wants
+  far-same (got a e) q at k w (inl h) f l = absurd h
+  far-same (refused n) q at k w (inl h) f l = absurd (let g : length s < at + w = f h in omega arith)
   far-same o q at k w (inr h) f l = h .0
 
   -- and ends within so many bytes

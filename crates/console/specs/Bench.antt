@@ -67,7 +67,7 @@ benchInput = do
 
 -- the refusal, or the plan
 unfoldable pub answerLine : ℕ → ℕ → Out Plan → List ℕ
-answerLine number tenancy (refused n) = spoken (Refused n)
+answerLine number tenancy (refused n) = spoken (Refused (n .number))
 answerLine number tenancy (got p e) = planLine number tenancy p
 
 -- the line of a unit's answer to a request
@@ -78,7 +78,7 @@ pub record Asks (u : Unit) (s line : List ℕ) : Type 0 where
 
 -- the line of an input: of its first refusal, or of the answer to its request
 unfoldable pub Line : Out Ready → List ℕ → Type 0
-Line (refused n) line = line ≡ spoken (Refused n)
+Line (refused n) line = line ≡ spoken (Refused (n .number))
 Line (got r e) line = Asks (r .unit) (r .request) line
 
 -- the line stands at the start of the buffer, all else as it was; its length is answered

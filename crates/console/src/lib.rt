@@ -2,6 +2,7 @@
 use basics::BLOCKS;
 use basics::PLAN_MOST;
 use basics::REQUEST_MOST;
+use field::Fault;
 use field::Field;
 use field::Refusal;
 use field::Verdict;
@@ -62,7 +63,13 @@ fn close(u: Unit, input: &[u8], at: usize, line: &mut Line) -> usize
             if to == input.len() {
                 ask(u, &input[from..to], line)
             } else {
-                refuse(Refusal::BytesFollow, line)
+                refuse(
+                    Fault {
+                        refusal: Refusal::BytesFollow,
+                        place: to,
+                    },
+                    line,
+                )
             }
         }
         Span::Refused(e) => refuse(e, line),

@@ -1,144 +1,140 @@
 -- What the promises mean to a caller.
 --     written-taken, written-accepted     what a caller takes out of a writer's answer; 0 in the lowest bits says accepted
+--     written-placed                      no place but with 11
+--     written-enough                      a buffer of the length that 11 told
 --     Handed, plan-handed                 the plan of a sheet comes out of the answer and the two lists
---     plan-refused, plan-accepted         the same of the plan reader's answer
+--     plan-refused, plan-accepted         the same of the plan reader's answer: a refusal's number and place; 0 says accepted
+--     plan-placed                         a byte of the sheet, or its end
+--     plan-enough                         lists of the entries that 11 told
 --     plan-taken, set-taken   what it takes out of the plan reader's answer, and out of the bytes of the short set
 --     settings-of-numbers, request-of-numbers     lists laid out as bytes give the sheets of those lists
 use mathlib.Core.Path.{_≡_, refl, sym, ap, _∙_, subst}
-use mathlib.Core.Bool.{Bool, false}
-use mathlib.Core.List.{List, [], _∷_}
+use mathlib.Core.Bool.{false}
+use mathlib.Core.List.{List}
 use Prim.Native.Nat.{ℕ, _*_, _%_, _^_, _≤_, _<_}
 use native.Mathlib.Omega.{arith}
 use native.Mathlib.Nat.{mul-mod-right}
 use borrow.Author.Tests.{le-leb, le-ltb}
-use lib.Dec.{lit<}
+use lib.Dec.{leb, lit<}
 use lib.ListN.{length, take}
 use Rattle.number.specs.Bytes.{Bytes}
-use Rattle.basics.specs.Choice.{pick}
 use Rattle.basics.proofs.Choice.{pick-true, pick-false, pick-elim}
-use Rattle.basics.proofs.Tests.{and-both}
+use Rattle.basics.proofs.Tests.{by-cases}
 use Rattle.field.specs.Put.{spellAll}
 use Rattle.field.specs.Send.{Draft, sheet, none, answerTo}
-use Rattle.field.specs.Sheet.{Out, got, refused}
+use Rattle.field.specs.Sheet.{Note, note, Out, got, refused}
 use Rattle.field.proofs.Known.{Known, Answers}
 use Rattle.basics.specs.Lists.{All}
 use Rattle.settings.specs.Draft.{settingsDraft}
-use Rattle.settings.proofs.Writing.{draft-either}
-use Rattle.request.specs.Draft.{checked, requestDraft}
+use Rattle.request.specs.Draft.{requestDraft}
 use Rattle.plan.specs.Plan.{Plan, planSheet}
 use Rattle.plan.proofs.Known.{numbered-plan}
-use Rattle.plan.specs.Receive.{roomFor, ifRoom, heads, disksLeft}
+use Rattle.plan.proofs.Room.{room-both}
+use Rattle.plan.proofs.Placed.{room-placed, room-near, room-wants, room-enough}
+use Rattle.plan.specs.Receive.{ifRoom, heads, disksLeft}
 use Rattle.basics.specs.Buffer.{over}
 use Rattle.basics.proofs.Buffer.{over-front}
 use Rattle.lent.specs.Numbers.{bytesOf, numbers, broken}
-use Rattle.lent.specs.Packed.{lengths, writerAnswer, readerAnswer, refusalIn, lengthIn}
+use Rattle.lent.specs.Packed.{lengths, packRefused, writerAnswer, readerAnswer, refusalIn, placeIn, lengthIn}
 use Rattle.desk.specs.Desk.{settingsDraftOfBytes, requestDraftOfBytes, Exported, planIfRoom, setLeft, PlanRead}
 use Rattle.lent.proofs.Numbers.{spell-length, numbers-length, numbers-spell}
-use Rattle.lent.proofs.Packed.{Unpacked, written-unpacks, plan-unpacks, refusal-unpacks}
+use Rattle.lent.proofs.Packed.{Unpacked, Refuses, written-unpacks, plan-unpacks, refusal-unpacks, refusal-number}
 use Rattle.desk.proofs.Reading.{Packable, plan-packable-room}
-use Rattle.desk.proofs.Writing.{settings-short, request-short}
+use Rattle.desk.proofs.Writing.{Answerable}
 
 -- ---- the writers' answer
 
--- a length of 32 bits, or one of the table's refusals
-unfoldable pub Answerable : Draft → Type 0
-Answerable (sheet bs) = length bs < lengths
-Answerable (none e) = Known e
-
--- no refusal and the length, or one of the table's refusals, which is not 0, and no length
+-- no refusal and the length, or one of the table's refusals, which is not 0, and its place
 unfoldable pub Taken : Out Unit → ℕ → Type 0
 Taken (got u n) r = (refusalIn r ≡ 0) × (lengthIn r ≡ n)
-Taken (refused e) r = Known e × (refusalIn r ≡ e) × (lengthIn r ≡ 0)
+Taken (refused e) r = Known (e .number) × Refuses e r
 
-refusal-taken : (e : ℕ) → Known e → Taken (refused e) e
+refusal-taken : (e : Note) → Known (e .number) → e .place < lengths → Taken (refused e) (packRefused e)
 unfolding Taken
-refusal-taken e h = let u : _ = refusal-unpacks e (omega (arith, h .1)) in (h, u .0, u .1)
+refusal-taken e h l = (h, refusal-unpacks e (omega (arith, h .1)) l)
 
 taken-of : (d : Draft) (out : List ℕ) → Answerable d → Taken (answerTo d out) (writerAnswer (answerTo d out))
 unfolding Answerable Taken answerTo writerAnswer
-taken-of (none e) out h = refusal-taken e h
+taken-of (none e) out h = refusal-taken e (h .known) (omega (arith, h .nowhere))
 taken-of (sheet bs) out h =
     pick-elim (λ (o : Out Unit). Taken o (writerAnswer o)) _ _ _
     (λ _. let u : _ = written-unpacks (length bs) h in (u .1, u .2))
-    (λ _. refusal-taken 11 (omega arith, omega arith))
+    (λ _. refusal-taken (note 11 (length bs)) (omega arith, omega arith) h)
 
 pub written-taken : (d : Draft) (out : List ℕ) (r : ℕ) (after : List ℕ) → Answerable d → Exported d out r after → Taken (answerTo d out) r
 written-taken d out r after h w = subst (Taken (answerTo d out)) (sym (w .answer)) (taken-of d out h)
-
--- every draft of the two writers is answerable
-pub settings-answerable : (unit t : ℕ) (costs loads delays : List ℕ) → Answerable (settingsDraftOfBytes unit t costs loads delays)
-unfolding settingsDraftOfBytes Answerable
-settings-answerable unit t costs loads delays =
-    pick-elim Answerable _ _ _ (λ _. (omega arith, omega arith))
-    (λ _.
-    draft-either unit t (numbers 4 costs) (numbers 4 loads) (numbers 4 delays)
-    (λ n. subst Answerable (sym n) (omega arith, omega arith))
-    (λ w. subst Answerable (sym (w .is)) (settings-short unit t (numbers 4 costs) (numbers 4 loads) (numbers 4 delays) _ (w .is))))
-
-answerable-pick : (b : Bool) (k : ℕ) (d : Draft) → Known k → (b ≡ false → Answerable d) → Answerable (pick b (none k) d)
-unfolding Answerable
-answerable-pick b k d h f = pick-elim Answerable b (none k) d (λ _. h) f
-
--- the blocks are checked one by one; what comes of a sheet comes of the rest
-Safe : Draft → Type 0
-Safe d = (e : ℕ) → d ≡ none e → Known e
-
-safe-none : (k : ℕ) → Known k → Safe (none k)
-unfolding Safe
-safe-none k h e q = let n : k ≡ e = cc in (omega (arith, n, h .0), omega (arith, n, h .1))
-
-safe-pick : (b : Bool) (k : ℕ) (d : Draft) → Known k → Safe d → Safe (pick b (none k) d)
-safe-pick b k d h l = pick-elim Safe b (none k) d (λ _. safe-none k h) (λ _. l)
-
-safe-sheet : (bs : List ℕ) → Safe (sheet bs)
-unfolding Safe
-safe-sheet bs e q = absurd (let z : _≡_ {A = ℕ} 0 1 = cc in omega arith)
-
-safe-checked : (n : ℕ) (ms : List ℕ) (d : Draft) → Safe d → Safe (checked n ms d)
-unfolding checked
-safe-checked n [] d h = h
-safe-checked n (m ∷ ms) d h =
-    safe-pick _ 7 _ (omega arith, omega arith)
-    (safe-pick _ 6 _ (omega arith, omega arith) (safe-pick _ 6 _ (omega arith, omega arith) (safe-checked n ms d h)))
-
-safe-request : (unit t n : ℕ) (ms : List ℕ) → Safe (requestDraft unit t n ms)
-unfolding requestDraft
-safe-request unit t n ms =
-    safe-pick _ 6 _ (omega arith, omega arith)
-    (safe-pick _ 6 _ (omega arith, omega arith)
-    (safe-pick _ 6 _ (omega arith, omega arith) (safe-pick _ 6 _ (omega arith, omega arith) (safe-checked n ms _ (safe-sheet _)))))
-
-draft-answerable : (d : Draft) → ((bs : List ℕ) → d ≡ sheet bs → length bs < lengths) → Safe d → Answerable d
-unfolding Answerable Safe
-draft-answerable (sheet bs) f g = f bs refl
-draft-answerable (none e) f g = g e refl
-
-pub request-answerable : (unit t n : ℕ) (copies : List ℕ) → Answerable (requestDraftOfBytes unit t n copies)
-unfolding requestDraftOfBytes
-request-answerable unit t n copies =
-    answerable-pick _ 6 _ (omega arith, omega arith)
-    (λ _.
-    draft-answerable (requestDraft unit t n (numbers 8 copies)) (request-short unit t n (numbers 8 copies))
-    (safe-request unit t n (numbers 8 copies)))
 
 -- 0 in bits 0 to 7 says accepted, and nothing else does
 pub written-accepted : (o : Out Unit) (r : ℕ) → Taken o r → refusalIn r ≡ 0 → (n : ℕ) × (o ≡ got tt n)
 unfolding Taken
 written-accepted (got tt n) r h z = (n, refl)
-written-accepted (refused e) r h z = absurd (omega (arith, h .0 .0, h .1, z))
+written-accepted (refused e) r h z = absurd (omega (arith, h .0 .0, h .1 .refusal, z))
+
+-- a refusal other than 11 has no place
+placed-of : (d : Draft) (out : List ℕ) (e : Note) → Answerable d → answerTo d out ≡ refused e → (e .number ≡ 11 → ⊥) → e .place ≡ 0
+unfolding Answerable answerTo
+placed-of (none k) out e h q o = let m : e ≡ k = cc in ap (λ (x : Note). x .place) m ∙ h .nowhere
+placed-of (sheet bs) out e h q o =
+    by-cases (leb (length bs) (length out))
+    (λ t. let v : got tt (length bs) ≡ refused e = sym (pick-true _ _ t) ∙ q in absurd (let z : _≡_ {A = ℕ} 0 1 = cc in omega arith))
+    (λ f. let v : refused (note 11 (length bs)) ≡ refused e = sym (pick-false _ _ f) ∙ q in
+    let m : e ≡ note 11 (length bs) = cc in absurd (o (ap (λ (x : Note). x .number) m)))
+
+placed-out : (d : Draft) (out : List ℕ) (r : ℕ) (o : Out Unit) → Answerable d → answerTo d out ≡ o → Taken o r → (refusalIn r ≡ 0 → ⊥)
+    → (refusalIn r ≡ 11 → ⊥) → placeIn r ≡ 0
+unfolding Taken
+placed-out d out r (got u n) h q k z o = absurd (z (k .0))
+placed-out d out r (refused e) h q k z o =
+    k .1 .place ∙ placed-of d out e h q (λ n. o (k .1 .refusal ∙ n))
+
+pub written-placed : (d : Draft) (out : List ℕ) (r : ℕ) (after : List ℕ) → Answerable d → Exported d out r after → (refusalIn r ≡ 0 → ⊥)
+    → (refusalIn r ≡ 11 → ⊥) → placeIn r ≡ 0
+written-placed d out r after h w z o = placed-out d out r (answerTo d out) h refl (written-taken d out r after h w) z o
+
+-- 11 tells the sheet's length, so a buffer of so many bytes is enough
+enough-of : (d : Draft) (out out′ : List ℕ) → Answerable d → refusalIn (writerAnswer (answerTo d out)) ≡ 11
+    → placeIn (writerAnswer (answerTo d out)) ≤ length out′ → answerTo d out′ ≡ got tt (placeIn (writerAnswer (answerTo d out)))
+unfolding Answerable answerTo writerAnswer
+enough-of (none e) out out′ h q l =
+    absurd (h .other (sym (refusal-number e (omega (arith, h .known .1))) ∙ q))
+enough-of (sheet bs) out out′ h q l =
+    by-cases (leb (length bs) (length out))
+    (λ t. absurd (omega (
+      arith,
+      written-unpacks (length bs) h .1,
+      ap (λ (o : Out Unit). refusalIn (writerAnswer o)) (pick-true (got tt (length bs)) (refused (note 11 (length bs))) t),
+      q,
+    )))
+    (λ f.
+    let p : placeIn (writerAnswer (answerTo (sheet bs) out)) ≡ length bs =
+    ap (λ (o : Out Unit). placeIn (writerAnswer o)) (pick-false (got tt (length bs)) (refused (note 11 (length bs))) f)
+    ∙ refusal-unpacks (note 11 (length bs)) (omega arith) h .place in
+    pick-true _ _ (le-leb (length bs) (length out′) (omega (arith, p, l))) ∙ ap (got tt) (sym p))
+
+pub written-enough : (d : Draft) (out out′ : List ℕ) (r : ℕ) (after : List ℕ) → Answerable d → Exported d out r after
+    → refusalIn r ≡ 11 → placeIn r ≤ length out′ → answerTo d out′ ≡ got tt (placeIn r)
+written-enough d out out′ r after h w q l =
+    enough-of d out out′ h (ap refusalIn (sym (w .answer)) ∙ q) (omega (arith, ap placeIn (w .answer), l))
+    ∙ ap (λ x. got tt (placeIn x)) (sym (w .answer))
 
 -- ---- the plan reader's answer
 
-room-answers : (o : Out Plan) (disks short : List ℕ) → Answers o → Answers (ifRoom o disks short)
-unfolding ifRoom Answers
-room-answers (got p e) disks short h = pick-elim Answers _ _ _ (λ _. tt) (λ _. (omega arith, omega arith))
-room-answers (refused n) disks short h = h
+-- with 11 for the lists, a number of the table
+unfoldable Tabled : Out Plan → Type 0
+Tabled (got p e) = Unit
+Tabled (refused n) = Known (n .number)
 
-refused-known : (o : Out Plan) (n : ℕ) → o ≡ refused n → Answers o → Known n
-unfolding Answers
-refused-known o n h a = subst Answers h a
+room-answers : (o : Out Plan) (disks short : List ℕ) → Answers o → Tabled (ifRoom o disks short)
+unfolding ifRoom Answers Tabled
+room-answers (got p e) disks short h =
+    pick-elim Tabled _ _ _ (λ _. pick-elim Tabled _ _ _ (λ _. tt) (λ _. (omega arith, omega arith))) (λ _. (omega arith, omega arith))
+room-answers (refused n) disks short h = h .0
 
-got-unless : (o : Out Plan) → ((n : ℕ) → o ≡ refused n → ⊥) → (p : Plan) × (e : ℕ) × (o ≡ got p e)
+refused-known : (o : Out Plan) (n : Note) → o ≡ refused n → Tabled o → Known (n .number)
+unfolding Tabled
+refused-known o n h a = subst Tabled h a
+
+got-unless : (o : Out Plan) → ((n : Note) → o ≡ refused n → ⊥) → (p : Plan) × (e : ℕ) × (o ≡ got p e)
 got-unless (got p e) f = (p, e, refl)
 got-unless (refused n) f = absurd (f n refl)
 
@@ -153,26 +149,66 @@ plan-taken unit t s disks set r disks′ set′ p e b w h =
     (plan-unpacks (length (p .disks)) (p .time) (length (p .short)) (omega (arith, g .blocks)) (omega (arith, g .time))
     (omega (arith, g .size)))
 
--- a refusal of the plan sheet is one of the table's, and its number is all that is answered
-pub plan-known : (unit t : ℕ) (s disks set : List ℕ) (n : ℕ) → planIfRoom unit t s disks set ≡ refused n → Known n
+-- a refusal of the plan sheet is one of the table's
+pub plan-known : (unit t : ℕ) (s disks set : List ℕ) (n : Note) → planIfRoom unit t s disks set ≡ refused n → Known (n .number)
 unfolding planIfRoom
 plan-known unit t s disks set n h =
     refused-known _ n h (room-answers (planSheet unit t s 0) disks (numbers 2 set) (numbered-plan unit t .answers s 0))
 
-pub plan-refused : (unit t : ℕ) (s disks set : List ℕ) (r : ℕ) (disks′ set′ : List ℕ) (n : ℕ)
-    → PlanRead unit t s disks set r disks′ set′ → planIfRoom unit t s disks set ≡ refused n → Known n × (r ≡ n) × (refusalIn r ≡ n)
+-- its number is what is answered in bits 0 to 7
+pub plan-number : (unit t : ℕ) (s disks set : List ℕ) (r : ℕ) (disks′ set′ : List ℕ) (n : Note)
+    → PlanRead unit t s disks set r disks′ set′ → planIfRoom unit t s disks set ≡ refused n
+    → (r ≡ packRefused n) × (refusalIn r ≡ n .number)
 unfolding heads readerAnswer
-plan-refused unit t s disks set r disks′ set′ n w h =
-    let k : Known n = plan-known unit t s disks set n h in
-    let e : r ≡ n = w .answer ∙ ap (λ (o : Out Plan). readerAnswer (heads o)) h in
-    (k, e, ap refusalIn e ∙ refusal-unpacks n (omega (arith, k .1)) .0)
+plan-number unit t s disks set r disks′ set′ n w h =
+    let e : r ≡ packRefused n = w .answer ∙ ap (λ (o : Out Plan). readerAnswer (heads o)) h in
+    (e, ap refusalIn e ∙ refusal-number n (omega (arith, plan-known unit t s disks set n h .1)))
+
+-- and its place, which is near however long the sheet is, is all that is answered beside it
+pub plan-refused : (unit t : ℕ) (s disks set : List ℕ) (r : ℕ) (disks′ set′ : List ℕ) (n : Note) → Bytes s
+    → PlanRead unit t s disks set r disks′ set′ → planIfRoom unit t s disks set ≡ refused n → Known (n .number) × Refuses n r
+unfolding planIfRoom
+plan-refused unit t s disks set r disks′ set′ n b w h =
+    let k : Known (n .number) = plan-known unit t s disks set n h in (
+      k,
+      subst (Refuses n) (sym (plan-number unit t s disks set r disks′ set′ n w h .0))
+          (refusal-unpacks n (omega (arith, k .1)) (omega (arith, room-near unit t s disks (numbers 2 set) h b))),
+    )
 
 -- 0 in bits 0 to 7 says accepted, and nothing else does
 pub plan-accepted : (unit t : ℕ) (s disks set : List ℕ) (r : ℕ) (disks′ set′ : List ℕ)
     → PlanRead unit t s disks set r disks′ set′ → refusalIn r ≡ 0 → (p : Plan) × (e : ℕ) × (planIfRoom unit t s disks set ≡ got p e)
 plan-accepted unit t s disks set r disks′ set′ w z =
     got-unless (planIfRoom unit t s disks set)
-    (λ n h. let u : _ = plan-refused unit t s disks set r disks′ set′ n w h in omega (arith, u .0 .0, u .2, z))
+    (λ n h. omega (arith, plan-known unit t s disks set n h .0, plan-number unit t s disks set r disks′ set′ n w h .1, z))
+
+-- any refusal but 11 tells a byte of the sheet, or its end
+pub plan-placed : (unit t : ℕ) (s disks set : List ℕ) (r : ℕ) (disks′ set′ : List ℕ) (n : Note) → Bytes s
+    → PlanRead unit t s disks set r disks′ set′ → planIfRoom unit t s disks set ≡ refused n → (refusalIn r ≡ 11 → ⊥)
+    → placeIn r ≤ length s
+unfolding planIfRoom
+plan-placed unit t s disks set r disks′ set′ n b w h o =
+    let u : Refuses n r = plan-refused unit t s disks set r disks′ set′ n b w h .1 in
+    omega (arith, u .place, room-placed unit t s disks (numbers 2 set) h (λ e. o (u .refusal ∙ e)))
+
+-- 11 tells the entries that a list needs: lists of so many, the first no shorter than before, are enough
+pub plan-enough : (unit t : ℕ) (s disks set : List ℕ) (r : ℕ) (disks′ set′ more-disks more-set : List ℕ) → Bytes s
+    → PlanRead unit t s disks set r disks′ set′ → refusalIn r ≡ 11 → length disks ≤ length more-disks → placeIn r ≤ length more-disks
+    → 2 * placeIn r ≤ length more-set → (p : Plan) × (e : ℕ) × (planIfRoom unit t s more-disks more-set ≡ got p e)
+unfolding planIfRoom
+plan-enough unit t s disks set r disks′ set′ more-disks more-set b w q i j k = enough-why (planIfRoom unit t s disks set) refl
+  where
+    enough-why : (o : Out Plan) → planIfRoom unit t s disks set ≡ o
+        → (p : Plan) × (e : ℕ) × (ifRoom (planSheet unit t s 0) more-disks (numbers 2 more-set) ≡ got p e)
+    enough-why (got p e) h = absurd (omega (arith, plan-taken unit t s disks set r disks′ set′ p e b w h .refusal, q))
+    enough-why (refused n) h =
+        let u = plan-refused unit t s disks set r disks′ set′ n b w h .1 in
+        let v = room-wants unit t s disks (numbers 2 set) h (sym (u .refusal) ∙ q) in (
+          v .plan,
+          v .end,
+          room-enough unit t s disks (numbers 2 set) more-disks (numbers 2 more-set) b v i (omega (arith, u .place, j))
+              (omega (arith, u .place, k, numbers-length 2 more-set)),
+        )
 
 -- the short set is what the first bytes of the lent list say
 pub set-taken : (unit t : ℕ) (s disks set : List ℕ) (r : ℕ) (disks′ set′ : List ℕ) (p : Plan) (e : ℕ) → Bytes s
@@ -195,11 +231,11 @@ pub record Handed (p : Plan) (r : ℕ) (disks set : List ℕ) : Type 0 where
 pub plan-handed : {unit t : ℕ} {s disks set : List ℕ} {r : ℕ} {disks′ set′ : List ℕ} (p : Plan) (e : ℕ) → Bytes s
     → planSheet unit t s 0 ≡ got p e → length (p .disks) ≤ length disks → 2 * length (p .short) ≤ length set
     → PlanRead unit t s disks set r disks′ set′ → Handed p r disks′ set′
-unfolding planIfRoom ifRoom roomFor disksLeft
+unfolding planIfRoom disksLeft
 plan-handed {unit} {t} {s} {disks} {set} {r} {disks′} {set′} p e b h l m w =
     let fits : length (p .short) ≤ length (numbers 2 set) = omega (arith, numbers-length 2 set) in
     let q : planIfRoom unit t s disks set ≡ got p e =
-    ap (λ (o : Out Plan). ifRoom o disks (numbers 2 set)) h ∙ pick-true _ _ (and-both _ _ (le-leb _ _ l) (le-leb _ _ fits)) in
+    ap (λ (o : Out Plan). ifRoom o disks (numbers 2 set)) h ∙ room-both p e disks (numbers 2 set) l fits in
     record {
       answer = plan-taken unit t s disks set r disks′ set′ p e b w q;
       blocks = ap (take (length (p .disks))) (w .blocks ∙ ap (λ (o : Out Plan). disksLeft o disks) q)

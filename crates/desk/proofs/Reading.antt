@@ -2,7 +2,7 @@
 --     plan-packable     Q, R and m of an accepted sheet, and its short set
 --     read-accepted, read-refused     the two ways in which it ends
 use mathlib.Core.Path.{_≡_, refl, sym, ap, _∙_, subst}
-use mathlib.Core.Bool.{Bool, _&&_}
+use mathlib.Core.Bool.{Bool}
 use mathlib.Core.List.{List, [], _∷_, _++_}
 use Prim.Native.Nat.{ℕ, _+_, _*_, _-_, _/_, _^_, _≤_, _<_}
 use native.Mathlib.Omega.{arith}
@@ -13,26 +13,27 @@ use lib.Seq.{take-take, length-take-le}
 use Rattle.number.specs.Bytes.{Bytes}
 use Rattle.basics.specs.Limits.{blocksMost, timeMost}
 use Rattle.basics.specs.Choice.{pick}
-use Rattle.basics.proofs.Choice.{pick-true, pick-false}
-use Rattle.basics.proofs.Tests.{by-cases, both}
-use Rattle.field.specs.declared.Refusal.{Refusal}
-use Rattle.field.specs.Refusal.{numberOf}
+use Rattle.basics.proofs.Tests.{by-cases}
+use Rattle.field.specs.declared.Fault.{Fault}
+use Rattle.field.specs.Refusal.{noteOf}
 use Rattle.field.specs.Put.{spellAll}
-use Rattle.field.specs.Sheet.{Out, got, refused}
+use Rattle.field.specs.Sheet.{Note, note, Out, got, refused}
 use Rattle.basics.specs.Lists.{All, Rises}
 use Rattle.plan.specs.declared.Head.{Head}
 use Rattle.plan.specs.declared.Answer.{Answer}
 use Rattle.plan.specs.declared.Answer.the-variants.{Accepted, Refused}
 use Rattle.plan.specs.Plan.{Plan, planSheet}
 use Rattle.plan.specs.Range.{InRange}
-use Rattle.plan.specs.Receive.{roomFor, ifRoom, heads, disksLeft, shortLeft, Received}
+use Rattle.plan.specs.Receive.{ifRoom, heads, disksLeft, shortLeft, Received}
 use Rattle.basics.specs.Buffer.{over}
 use Rattle.plan.specs.Told.{toldPlan}
 use Rattle.plan.proofs.Reading.{any-most}
 use Rattle.basics.proofs.Buffer.{over-front}
 use Rattle.plan.proofs.RoundTrip.{sheet-exact}
+use Rattle.plan.proofs.Room.{room-disks, room-short, room-both, room-either}
+use Rattle.plan.proofs.Placed.{read-near}
 use Rattle.lent.specs.Numbers.{bytesOf, numbers, Room}
-use Rattle.lent.specs.Packed.{packRefused, readerAnswer, FitsBits}
+use Rattle.lent.specs.Packed.{lengths, packRefused, readerAnswer, FitsBits}
 use Rattle.desk.specs.Desk.{planIfRoom, setLeft, PlanRead}
 use Rattle.lent.proofs.Numbers.{numbers-length}
 
@@ -71,10 +72,11 @@ leb-same m x y f g =
 room-alike : (o : Out Plan) (disks a b : List ℕ)
     → ((p : Plan) (e : ℕ) → o ≡ got p e → leb (length (p .short)) (length a) ≡ leb (length (p .short)) (length b))
     → ifRoom o disks a ≡ ifRoom o disks b
-unfolding ifRoom roomFor
+unfolding ifRoom
 room-alike (refused n) disks a b h = refl
 room-alike (got p e) disks a b h =
-    ap (λ (x : Bool). pick (leb (length (p .disks)) (length disks) && x) (got p e) (refused 11)) (h p e refl)
+    ap (λ (x : Bool). pick (leb (length (p .disks)) (length disks))
+    (pick x (got p e) (refused (note 11 (length (p .short))))) (refused (note 11 (length (p .disks))))) (h p e refl)
 
 -- a list of 1,024 numbers has room for as many as any longer one
 pub room-same : (unit t : ℕ) (s disks short set : List ℕ) → Bytes s → Room (length set / 2) (length short)
@@ -93,9 +95,12 @@ room-got : (o : Out Plan) (disks short : List ℕ) (p : Plan) (e : ℕ) → ifRo
 unfolding ifRoom
 room-got (refused n) disks short p e h = absurd (let z : _≡_ {A = ℕ} 0 1 = cc in omega arith)
 room-got (got x n) disks short p e h =
-    by-cases (roomFor x disks short)
-    (λ t. sym (pick-true _ _ t) ∙ h)
-    (λ f. let v : refused 11 ≡ got p e = sym (pick-false _ _ f) ∙ h in absurd (let z : _≡_ {A = ℕ} 0 1 = cc in omega arith))
+    room-either x n disks short
+    (λ l. let v : refused (note 11 (length (x .disks))) ≡ got p e = sym (room-disks x n disks short l) ∙ h in
+    absurd (let z : _≡_ {A = ℕ} 0 1 = cc in omega arith))
+    (λ k l. let v : refused (note 11 (length (x .short))) ≡ got p e = sym (room-short x n disks short k l) ∙ h in
+    absurd (let z : _≡_ {A = ℕ} 0 1 = cc in omega arith))
+    (λ k l. sym (room-both x n disks short k l) ∙ h)
 
 pub plan-packable-room : (unit t : ℕ) (s disks set : List ℕ) (p : Plan) (e : ℕ) → Bytes s → planIfRoom unit t s disks set ≡ got p e
     → Packable p
@@ -116,13 +121,16 @@ pub record Plans (unit t : ℕ) (s disks short : List ℕ) (h : Head) : Type 0 w
 
 plans-of : (unit t : ℕ) (s disks short : List ℕ) (h : Head) (n : ℕ) (o : Out Plan) → Bytes s → planSheet unit t s 0 ≡ o
     → got h n ≡ heads (ifRoom o disks short) → Plans unit t s disks short h
-unfolding ifRoom roomFor heads
+unfolding ifRoom heads
 plans-of unit t s disks short h n (refused m) b q w = absurd (let o : _≡_ {A = ℕ} 0 1 = cc in omega arith)
 plans-of unit t s disks short h n (got p e) b q w =
-    by-cases (leb (length (p .disks)) (length disks) && leb (length (p .short)) (length short))
-    (λ y.
-    let x : pick (leb (length (p .disks)) (length disks) && leb (length (p .short)) (length short)) (got p e) (refused 11)
-    ≡ got p e = pick-true _ _ y in
+    room-either p e disks short
+    (λ l. let v : got h n ≡ refused (note 11 (length (p .disks))) = w ∙ ap heads (room-disks p e disks short l) in
+    absurd (let o : _≡_ {A = ℕ} 0 1 = cc in omega arith))
+    (λ k l. let v : got h n ≡ refused (note 11 (length (p .short))) = w ∙ ap heads (room-short p e disks short k l) in
+    absurd (let o : _≡_ {A = ℕ} 0 1 = cc in omega arith))
+    (λ k l.
+    let x : ifRoom (got p e) disks short ≡ got p e = room-both p e disks short k l in
     let v : got h n ≡ got (record { blocks = length (p .disks); time = p .time; size = length (p .short) }) e = w ∙ ap heads x in
     let i : h ≡ record { blocks = length (p .disks); time = p .time; size = length (p .short) } = cc in
     record {
@@ -130,14 +138,11 @@ plans-of unit t s disks short h n (got p e) b q w =
       end = e;
       is = ap (λ (z : Out Plan). ifRoom z disks short) q ∙ x;
       range = plan-packable unit t s p e b q;
-      room = leb-true _ _ (both (leb (length (p .disks)) (length disks)) _ y .1);
+      room = l;
       blocks = ap (λ (z : Head). z .blocks) i;
       time = ap (λ (z : Head). z .time) i;
       size = ap (λ (z : Head). z .size) i;
     })
-    (λ f.
-    let v : got h n ≡ refused 11 = w ∙ ap heads (pick-false _ _ f) in
-    absurd (let o : _≡_ {A = ℕ} 0 1 = cc in omega arith))
 
 -- what is packed has room in its bits
 pub plans-small : {unit t : ℕ} {s disks short : List ℕ} {h : Head} → Plans unit t s disks short h → FitsBits (Accepted h)
@@ -157,10 +162,19 @@ pairs-fit zeros ys set k p r l e =
     (omega (arith, length-append ys (drop k zeros), p .size, p .room), omega (arith, p .size, p .room, r .below))
 
 -- a refusal leaves the short set as it was
-unset : (o : Out Plan) (set : List ℕ) {n : ℕ} → refused n ≡ heads o → set ≡ setLeft o set
+unset : (o : Out Plan) (set : List ℕ) {n : Note} → refused n ≡ heads o → set ≡ setLeft o set
 unfolding heads setLeft
 unset (got p e) set h = absurd (let o : _≡_ {A = ℕ} 0 1 = cc in omega arith)
 unset (refused m) set h = refl
+
+-- a refusal's place has room in its bits, whatever is lent
+pub near : (unit t : ℕ) (s : List ℕ) {disks short : List ℕ} {a : Answer} {disks′ short′ : List ℕ} {f : Fault} → Bytes s
+    → Received (planSheet unit t s 0) (length s) disks short a disks′ short′ → a ≡ Refused f → f .place < lengths
+near unit t s {disks} {short} {disks′ = disks′} {short′ = short′} b g e =
+    omega (
+      arith,
+      read-near unit t s (subst (λ (x : Answer). Received (planSheet unit t s 0) (length s) disks short x disks′ short′) e g) b,
+    )
 
 module _ {unit t : ℕ} {s disks short : List ℕ} {a : Answer} {disks′ short′ : List ℕ} (b : Bytes s)
     (g : Received (planSheet unit t s 0) (length s) disks short a disks′ short′) where
@@ -188,13 +202,13 @@ module _ {unit t : ℕ} {s disks short : List ℕ} {a : Answer} {disks′ short�
             ∙ ap (λ (o : Out Plan). setLeft o set) (sym (p .is) ∙ same);
       }
 
-  pub read-refused : (set : List ℕ) {e : Refusal} {r : ℕ} → a ≡ Refused e → Room (length set / 2) (length short)
-      → r ≡ packRefused (numberOf e)
+  pub read-refused : (set : List ℕ) {e : Fault} {r : ℕ} → a ≡ Refused e → Room (length set / 2) (length short)
+      → r ≡ packRefused (noteOf e)
       → PlanRead unit t s disks set r disks′ set
   unfolding toldPlan readerAnswer
   read-refused set {e} {r} q room answer =
       let same : ifRoom (planSheet unit t s 0) disks short ≡ planIfRoom unit t s disks set = room-same unit t s disks short set b room in
-      let v : refused (numberOf e) ≡ heads (planIfRoom unit t s disks set) = ap (toldPlan (length s)) (sym q) ∙ g .answer ∙ ap heads same in
+      let v : refused (noteOf e) ≡ heads (planIfRoom unit t s disks set) = ap (toldPlan (length s)) (sym q) ∙ g .answer ∙ ap heads same in
       record {
         answer = answer ∙ ap readerAnswer v;
         blocks = g .blocks ∙ ap (λ (o : Out Plan). disksLeft o disks) same;

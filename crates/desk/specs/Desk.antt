@@ -11,7 +11,7 @@ use mathlib.Core.List.{List}
 use Rattle.basics.specs.Choice.{pick}
 use Rattle.field.specs.Put.{spellAll}
 use Rattle.field.specs.Send.{Draft, none, answerTo, leftBy}
-use Rattle.field.specs.Sheet.{Out, got, refused}
+use Rattle.field.specs.Sheet.{Out, got, refused, unplaced}
 use Rattle.settings.specs.Draft.{settingsDraft}
 use Rattle.request.specs.Draft.{requestDraft}
 use Rattle.plan.specs.Plan.{Plan, planSheet}
@@ -23,12 +23,12 @@ use Rattle.lent.specs.Packed.{writerAnswer, readerAnswer}
 -- the settings sheet of four-byte numbers; a list broken inside a number is 6 before the rest
 unfoldable pub settingsDraftOfBytes : ℕ → ℕ → List ℕ → List ℕ → List ℕ → Draft
 settingsDraftOfBytes unit t costs loads delays =
-    pick (broken 4 costs || (broken 4 loads || broken 4 delays)) (none 6)
+    pick (broken 4 costs || (broken 4 loads || broken 4 delays)) (none (unplaced 6))
     (settingsDraft unit t (numbers 4 costs) (numbers 4 loads) (numbers 4 delays))
 
 -- the read request of eight-byte numbers; a list broken inside a number is 6 before the rest
 unfoldable pub requestDraftOfBytes : ℕ → ℕ → ℕ → List ℕ → Draft
-requestDraftOfBytes unit t n copies = pick (broken 8 copies) (none 6) (requestDraft unit t n (numbers 8 copies))
+requestDraftOfBytes unit t n copies = pick (broken 8 copies) (none (unplaced 6)) (requestDraft unit t n (numbers 8 copies))
 
 -- the sheet stands at the start of the buffer, the rest as it was; on refusal nothing has changed
 pub record Exported (d : Draft) (out : List ℕ) (r : ℕ) (after : List ℕ) : Type 0 where

@@ -1,6 +1,7 @@
 // The desk end for C: lists lent as bytes, one call, one packed answer.
 use basics::BLOCKS;
 use basics::DISKS;
+use field::Fault;
 use field::Refusal;
 use field::Written;
 use plan::Answer;
@@ -49,13 +50,22 @@ pub extern "C" fn rp_write_settings(
         (now (out .entry)) r (now (out .exit)) ⌝ }
 {
     if !lent::usable(costs, 4, DISKS) {
-        return lent::refuse(Refusal::OutOfRange);
+        return lent::refuse(Fault {
+            refusal: Refusal::OutOfRange,
+            place: 0,
+        });
     }
     if !lent::usable(loads, 4, DISKS) {
-        return lent::refuse(Refusal::OutOfRange);
+        return lent::refuse(Fault {
+            refusal: Refusal::OutOfRange,
+            place: 0,
+        });
     }
     if !lent::usable(delays, 4, DISKS) {
-        return lent::refuse(Refusal::OutOfRange);
+        return lent::refuse(Fault {
+            refusal: Refusal::OutOfRange,
+            place: 0,
+        });
     }
     lent::pack_written(send_settings(unit, tenancy, costs, loads, delays, out))
 }
@@ -72,7 +82,10 @@ pub extern "C" fn rp_write_request(
     ensures { λ r. ⌜ Exported (requestDraftOfBytes unit tenancy disks (now (copies .entry))) (now (out .entry)) r (now (out .exit)) ⌝ }
 {
     if !lent::usable(copies, 8, BLOCKS) {
-        return lent::refuse(Refusal::OutOfRange);
+        return lent::refuse(Fault {
+            refusal: Refusal::OutOfRange,
+            place: 0,
+        });
     }
     let blocks = lent::eights(copies);
     let n = copies.len() / 8;

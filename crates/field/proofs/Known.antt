@@ -1,32 +1,77 @@
--- Every refusal has one of the table's numbers, 1 to 14: so 0 in an answer's lowest bits says that it was accepted.
+-- Every refusal has one of the table's numbers, 1 to 16: so 0 in an answer's lowest bits says that it was accepted.
 --     Known            a number of the table
---     Answers          what reading gives is accepted, or has a number of the table
+--     Own              one of a reader's own: 11 is of a lent buffer or list alone (`own-six`, ..)
+--     Answers          what reading gives is accepted, or is refused with one of those
 --     Numbered         a reader that gives nothing else
 --     refusal-known    the numbers of the refusals that the code has
 use Prim.Native.Nat.{ℕ, zero, suc, _+_, _≤_}
 use mathlib.Core.Bool.{Bool}
+use mathlib.Core.Path.{_≡_}
 use mathlib.Core.List.{List, [], _∷_}
 use native.Mathlib.Omega.{arith}
-use lib.ListN.{drop}
+use lib.ListN.{length, drop}
 use Rattle.basics.specs.Limits.{refusalsMost}
 use Rattle.basics.proofs.Choice.{pick-elim}
 use Rattle.number.specs.Decode.{Decoded, value, under, more, decode, refused as bad}
 use Rattle.field.specs.declared.Refusal.{Refusal}
 use Rattle.field.specs.declared.Refusal.the-variants.{SheetEnds, BadNumber, WrongKind, WrongUnit, WrongTenancy, OutOfRange, NoCopy}
 use Rattle.field.specs.declared.Refusal.the-variants.{NotRising, BytesFollow, NoSettings, NoRoom, Rented, NotAbove, NotTheTenant}
+use Rattle.field.specs.declared.Refusal.the-variants.{BadAmount, BadIndex}
 use Rattle.field.specs.Refusal.{numberOf}
-use Rattle.field.specs.Sheet.{Out, got, refused, Parser, andThen, _>>=_, _>>_, pure, require, times}
+use Rattle.field.specs.Sheet.{Note, Out, got, refused, Parser, andThen, _>>=_, _>>_, pure, here, require, times}
 use Rattle.field.specs.Field.{taken, number, between, inside, ascending, kind, addressed, opening, end, whole}
 
 abbrev pub Known : ℕ → Type 0
 Known n = (1 ≤ n) × (n ≤ refusalsMost)
 
-known : {n : ℕ} → 1 ≤ n → n ≤ 14 → Known n
+known : {n : ℕ} → 1 ≤ n → n ≤ 16 → Known n
 known l m = (l, m)
+
+abbrev pub Own : ℕ → Type 0
+Own n = Known n × (n ≡ 11 → ⊥)
+
+own : {n : ℕ} → 1 ≤ n → n ≤ 16 → (n ≡ 11 → ⊥) → Own n
+own l m z = ((l, m), z)
+
+own-one : Own 1
+own-one = own (omega arith) (omega arith) (λ z. omega (arith, z))
+
+own-two : Own 2
+own-two = own (omega arith) (omega arith) (λ z. omega (arith, z))
+
+own-three : Own 3
+own-three = own (omega arith) (omega arith) (λ z. omega (arith, z))
+
+own-four : Own 4
+own-four = own (omega arith) (omega arith) (λ z. omega (arith, z))
+
+own-five : Own 5
+own-five = own (omega arith) (omega arith) (λ z. omega (arith, z))
+
+pub own-six : Own 6
+own-six = own (omega arith) (omega arith) (λ z. omega (arith, z))
+
+pub own-seven : Own 7
+own-seven = own (omega arith) (omega arith) (λ z. omega (arith, z))
+
+own-eight : Own 8
+own-eight = own (omega arith) (omega arith) (λ z. omega (arith, z))
+
+own-nine : Own 9
+own-nine = own (omega arith) (omega arith) (λ z. omega (arith, z))
+
+pub own-ten : Own 10
+own-ten = own (omega arith) (omega arith) (λ z. omega (arith, z))
+
+pub own-fifteen : Own 15
+own-fifteen = own (omega arith) (omega arith) (λ z. omega (arith, z))
+
+pub own-sixteen : Own 16
+own-sixteen = own (omega arith) (omega arith) (λ z. omega (arith, z))
 
 unfoldable pub Answers : {A : Type 0} → Out A → Type 0
 Answers (got a e) = Unit
-Answers (refused n) = Known n
+Answers (refused n) = Own (n .number)
 
 pub record Numbered {A : Type 0} (p : Parser A) : Type 0 where
   pub answers : (s : List ℕ) (at : ℕ) → Answers (p s at)
@@ -51,9 +96,13 @@ pub numbered-pure : {A : Type 0} (a : A) → Numbered (pure a)
 unfolding pure Answers
 numbered-pure a = record { answers = λ s at. tt }
 
-pub numbered-require : (b : Bool) {e : ℕ} → Known e → Numbered (require b e)
+pub numbered-here : Numbered here
+unfolding here Answers
+numbered-here = record { answers = λ s at. tt }
+
+pub numbered-require : (b : Bool) (e : Note) → Own (e .number) → Numbered (require b e)
 unfolding require Answers
-numbered-require b h = record { answers = λ s at. pick-elim Answers b _ _ (λ _. tt) (λ _. h) }
+numbered-require b e h = record { answers = λ s at. pick-elim Answers b _ _ (λ _. tt) (λ _. h) }
 
 pub numbered-times : {A : Type 0} (n : ℕ) {p : Parser A} → Numbered p → Numbered (times n p)
 unfolding times
@@ -64,7 +113,7 @@ numbered-times (suc n) h = numbered-bind h (λ a. numbered-bind (numbered-times 
 
 unfoldable Decodes : Decoded → Type 0
 Decodes (value v n) = Unit
-Decodes (bad e) = Known e
+Decodes (bad e) = Own e
 
 decodes-under : (b : ℕ) (d : Decoded) → Decodes d → Decodes (under b d)
 unfolding under Decodes
@@ -73,61 +122,62 @@ decodes-under b (bad e) h = h
 
 decodes-more : (k : ℕ) (s : List ℕ) → Decodes (more k s)
 unfolding more Decodes
-decodes-more zero [] = known (omega arith) (omega arith)
+decodes-more zero [] = own-one
 decodes-more zero (b ∷ s) =
-    pick-elim Decodes _ _ _ (λ _. known (omega arith) (omega arith))
-    (λ _. pick-elim Decodes _ _ _ (λ _. tt) (λ _. known (omega arith) (omega arith)))
-decodes-more (suc k) [] = known (omega arith) (omega arith)
+    pick-elim Decodes _ _ _ (λ _. own-two)
+    (λ _. pick-elim Decodes _ _ _ (λ _. tt) (λ _. own-two))
+decodes-more (suc k) [] = own-one
 decodes-more (suc k) (b ∷ s) =
-    pick-elim Decodes _ _ _ (λ _. known (omega arith) (omega arith))
+    pick-elim Decodes _ _ _ (λ _. own-two)
     (λ _. pick-elim Decodes _ _ _ (λ _. tt) (λ _. decodes-under b (more k s) (decodes-more k s)))
 
 decodes : (s : List ℕ) → Decodes (decode s)
 unfolding decode Decodes
-decodes [] = known (omega arith) (omega arith)
+decodes [] = own-one
 decodes (b ∷ s) = pick-elim Decodes _ _ _ (λ _. tt) (λ _. decodes-under b (more 3 s) (decodes-more 3 s))
 
-answers-taken : (at : ℕ) (d : Decoded) → Decodes d → Answers (taken at d)
+answers-taken : (len at : ℕ) (d : Decoded) → Decodes d → Answers (taken len at d)
 unfolding taken Answers Decodes
-answers-taken at (value v n) h = tt
-answers-taken at (bad e) h = h
+answers-taken len at (value v n) h = tt
+answers-taken len at (bad e) h = h
 
 pub numbered-number : Numbered number
 unfolding number
-numbered-number = record { answers = λ s at. answers-taken at (decode (drop at s)) (decodes (drop at s)) }
+numbered-number = record { answers = λ s at. answers-taken (length s) at (decode (drop at s)) (decodes (drop at s)) }
 
 -- ---- the fields
 
-pub numbered-between : (low high : ℕ) {under above : ℕ} → Known under → Known above → Numbered (between low high under above)
+pub numbered-between : (low high : ℕ) {under above : ℕ} → Own under → Own above → Numbered (between low high under above)
 unfolding between
 numbered-between low high u a =
-    numbered-bind numbered-number (λ v. numbered-then (numbered-require _ a) (numbered-then (numbered-require _ u) (numbered-pure v)))
+    numbered-bind numbered-here (λ at.
+    numbered-bind numbered-number (λ v. numbered-then (numbered-require _ _ a) (numbered-then (numbered-require _ _ u) (numbered-pure v))))
 
--- out of range is 6
-pub numbered-inside : (low high : ℕ) → Numbered (inside low high 6)
-numbered-inside low high = numbered-between low high (known (omega arith) (omega arith)) (known (omega arith) (omega arith))
+pub numbered-inside : (low high e : ℕ) → Own e → Numbered (inside low high e)
+numbered-inside low high e k = numbered-between low high k k
 
 pub numbered-ascending : (n floor high : ℕ) → Numbered (ascending n floor high)
 unfolding ascending
 numbered-ascending zero floor high = numbered-pure []
 numbered-ascending (suc n) floor high =
-    numbered-bind (numbered-between floor high (known (omega arith) (omega arith)) (known (omega arith) (omega arith)))
+    numbered-bind (numbered-between floor high own-eight own-sixteen)
     (λ v. numbered-bind (numbered-ascending n (v + 1) high) (λ vs. numbered-pure (v ∷ vs)))
 
 pub numbered-opening : (kinds : List ℕ) (unit t : ℕ) → Numbered (opening kinds unit t)
 unfolding opening kind addressed
 numbered-opening kinds unit t =
     numbered-bind
-    (numbered-bind numbered-number (λ k. numbered-then (numbered-require _ (known (omega arith) (omega arith))) (numbered-pure k)))
+    (numbered-bind numbered-here (λ at.
+    numbered-bind numbered-number (λ k. numbered-then (numbered-require _ _ own-three) (numbered-pure k))))
     (λ k. numbered-then
     (numbered-then
-    (numbered-between unit unit (known (omega arith) (omega arith)) (known (omega arith) (omega arith)))
-    (numbered-between _ t (known (omega arith) (omega arith)) (known (omega arith) (omega arith))))
+    (numbered-between unit unit own-four own-four)
+    (numbered-between _ t own-five own-five))
     (numbered-pure k))
 
 numbered-end : Numbered end
 unfolding end Answers
-numbered-end = record { answers = λ s at. pick-elim Answers _ _ _ (λ _. tt) (λ _. known (omega arith) (omega arith)) }
+numbered-end = record { answers = λ s at. pick-elim Answers _ _ _ (λ _. tt) (λ _. own-nine) }
 
 pub numbered-whole : {A : Type 0} {p : Parser A} → Numbered p → Numbered (whole p)
 unfolding whole
@@ -150,3 +200,5 @@ refusal-known NoRoom = known (omega arith) (omega arith)
 refusal-known Rented = known (omega arith) (omega arith)
 refusal-known NotAbove = known (omega arith) (omega arith)
 refusal-known NotTheTenant = known (omega arith) (omega arith)
+refusal-known BadAmount = known (omega arith) (omega arith)
+refusal-known BadIndex = known (omega arith) (omega arith)

@@ -12,3 +12,4 @@ pub mod Lists
 pub mod Sends
 pub mod Known
 pub mod OneByte
+pub mod Within

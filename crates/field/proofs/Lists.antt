@@ -11,7 +11,7 @@ use native.Mathlib.Omega.{arith}
 use lib.ListN.{length}
 use Rattle.number.specs.Bytes.{Bytes}
 use Rattle.number.specs.Encode.{encode}
-use Rattle.field.specs.Sheet.{Out, got, refused, Parser, andThen, _>>=_, pure, times}
+use Rattle.field.specs.Sheet.{Note, Out, got, refused, Parser, andThen, _>>=_, pure, times}
 use Rattle.field.specs.Field.{rising, ascending}
 use Rattle.basics.specs.Lists.{All, Rises}
 use Rattle.field.specs.Put.{spellAll}
@@ -62,7 +62,7 @@ module _ {A : Type 0} (p : Parser A) (s : List ℕ) where
       ap (λ (m : ℕ). prefix xs (times m p s at)) k ∙ ap (prefix xs) (times-more (n - (i + 1)) at h)
       ∙ prefix-one xs a (times (n - (i + 1)) p s e)
 
-  pub times-stop : (n i at : ℕ) (xs : List A) {m : ℕ} → i < n → p s at ≡ refused m → prefix xs (times (n - i) p s at) ≡ refused m
+  pub times-stop : (n i at : ℕ) (xs : List A) {m : Note} → i < n → p s at ≡ refused m → prefix xs (times (n - i) p s at) ≡ refused m
   unfolding times prefix
   times-stop n i at xs l h =
       let k : n - i ≡ suc (n - (i + 1)) = omega arith in
@@ -92,7 +92,7 @@ module _ (high : ℕ) (s : List ℕ) where
       ap (λ (m : ℕ). prefix xs (ascending m floor high s at)) k ∙ ap (prefix xs) (ascending-more (n - (i + 1)) floor at h)
       ∙ prefix-one xs v (ascending (n - (i + 1)) (v + 1) high s e)
 
-  pub ascending-stop : (n i floor at : ℕ) (xs : List ℕ) {m : ℕ} → i < n → rising floor high s at ≡ refused m
+  pub ascending-stop : (n i floor at : ℕ) (xs : List ℕ) {m : Note} → i < n → rising floor high s at ≡ refused m
       → prefix xs (ascending (n - i) floor high s at) ≡ refused m
   unfolding ascending prefix
   ascending-stop n i floor at xs l h =
@@ -119,7 +119,7 @@ pub reads-ascending : (high : ℕ) → high < 2 ^ 32 → (floor : ℕ) (vs : Lis
 unfolding ascending spellAll Rises
 reads-ascending high h floor [] r = reads-pure []
 reads-ascending high h floor (v ∷ vs) r =
-    reads-bind _ (reads-between floor high 8 6 v (r .0) (r .1) (omega (arith, r .1)))
+    reads-bind _ (reads-between floor high 8 16 v (r .0) (r .1) (omega (arith, r .1)))
     (reads-checked _ (reads-ascending high h (v + 1) vs (r .2)) (reads-pure (v ∷ vs)))
 
 -- ---- the bytes of what was read
@@ -152,7 +152,7 @@ ascending-spelt high s b (suc n) floor at vs e l h =
     let w = bind-got (rising floor high) s at vs e (λ v. ascending n (v + 1) high >>= λ rest. pure (v ∷ rest)) h in
     let u = bind-got (ascending n (w .found + 1) high) s (w .mid) vs e (λ rest. pure (w .found ∷ rest)) (w .last) in
     let q = pure-got (w .found ∷ u .found) vs s (u .mid) e (u .last) in
-    let f = between-spelt s b at floor high 8 6 (w .first) in
+    let f = between-spelt s b at floor high 8 16 (w .first) in
     let g = ascending-spelt high s b n (w .found + 1) (w .mid) (u .found) (u .mid) (f .0 .within) (u .first) in
     moved (λ z k. Spelt s at k (spellAll encode z) × (length z ≡ suc n) × Rises floor high z) (q .0) (q .1)
     (spelt-join (f .0) (g .0), ap suc (g .1), (f .1, f .2, g .2))

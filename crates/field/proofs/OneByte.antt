@@ -9,10 +9,11 @@ use native.Mathlib.Omega.{arith}
 use borrow.Author.Tests.{lt-ltb, eqb-false}
 use lib.ListN.{length, drop, getD, length-drop}
 use lib.Seq.{drop-cons}
+use Rattle.basics.specs.Choice.{pick}
 use Rattle.basics.proofs.Choice.{pick-true, pick-elim}
 use Rattle.number.specs.Decode.{Decoded, value, under, more, decode, refused as bad}
 use Rattle.number.proofs.Decode.{decode-none}
-use Rattle.field.specs.Sheet.{got, refused}
+use Rattle.field.specs.Sheet.{note, got, refused}
 use Rattle.field.specs.Field.{taken, number}
 
 -- a value that is above a number
@@ -40,24 +41,24 @@ above-decode : (high b : ℕ) (s : List ℕ) → high < 128 → high < b → Abo
 unfolding Above decode
 above-decode high b s l h = pick-elim (Above high) _ _ _ (λ _. h) (λ _. above-under high b (more 3 s) l (above-more 3 s))
 
-above-taken : {high v e : ℕ} (at : ℕ) (d : Decoded) → Above high d → taken at d ≡ got v e → high < v
+above-taken : {high v e : ℕ} (len at : ℕ) (d : Decoded) → Above high d → taken len at d ≡ got v e → high < v
 unfolding Above taken
-above-taken {high} {v} {e} at (value w n) h q = let z : w ≡ v = cc in omega (arith, h, z)
-above-taken at (bad m) h q = absurd (let z : _≡_ {A = ℕ} 0 1 = cc in omega arith)
+above-taken {high} {v} {e} len at (value w n) h q = let z : w ≡ v = cc in omega (arith, h, z)
+above-taken len at (bad m) h q = absurd (let z : _≡_ {A = ℕ} 0 1 = cc in omega arith)
 
 module _ (s : List ℕ) (at : ℕ) where
-  pub number-ends : length s ≤ at → number s at ≡ refused 1
-  unfolding number taken
-  number-ends h = ap (taken at) (decode-none (drop at s) (length-drop at s ∙ omega arith))
+  pub number-ends : length s ≤ at → number s at ≡ refused (note 1 (length s))
+  unfolding number taken pick
+  number-ends h = ap (taken (length s) at) (decode-none (drop at s) (length-drop at s ∙ omega arith))
 
   module _ (h : at < length s) where
-    first : number s at ≡ taken at (decode (getD s at 0 ∷ drop (suc at) s))
+    first : number s at ≡ taken (length s) at (decode (getD s at 0 ∷ drop (suc at) s))
     unfolding number
-    first = ap (λ (x : List ℕ). taken at (decode x)) (drop-cons s at 0 h)
+    first = ap (λ (x : List ℕ). taken (length s) at (decode x)) (drop-cons s at 0 h)
 
     pub number-byte : getD s at 0 < 128 → number s at ≡ got (getD s at 0) (at + 1)
     unfolding decode taken
-    number-byte l = first ∙ ap (taken at) (pick-true _ _ (lt-ltb _ 128 l))
+    number-byte l = first ∙ ap (taken (length s) at) (pick-true _ _ (lt-ltb _ 128 l))
 
     pub number-above : {high v e : ℕ} → high < 128 → high < getD s at 0 → number s at ≡ got v e → high < v
-    number-above l b q = above-taken at (decode (getD s at 0 ∷ drop (suc at) s)) (above-decode _ _ _ l b) (sym first ∙ q)
+    number-above l b q = above-taken (length s) at (decode (getD s at 0 ∷ drop (suc at) s)) (above-decode _ _ _ l b) (sym first ∙ q)

@@ -13,37 +13,38 @@ use native.Mathlib.Omega.{arith}
 use borrow.Author.Tests.{eq-eqb, ne-eqb, le-leb, lt-leb}
 use lib.ListN.{length, take, drop, length-drop}
 use Rattle.basics.specs.Lists.{listed}
+use Rattle.basics.specs.Choice.{pick}
 use Rattle.basics.proofs.Buffer.{rest}
 use Rattle.basics.proofs.Choice.{pick-true, pick-false}
 use Rattle.number.specs.Decode.{decode}
 use Rattle.number.proofs.Decode.{decode-none}
-use Rattle.field.specs.Sheet.{Out, got, refused, pure}
+use Rattle.field.specs.Sheet.{Note, note, Out, got, refused, pure}
 use Rattle.field.specs.declared.Field.{Field}
 use Rattle.field.specs.declared.Field.the-variants.{Got, Refused}
-use Rattle.field.specs.declared.Refusal.{Refusal}
-use Rattle.field.specs.Refusal.{numberOf}
+use Rattle.field.specs.declared.Fault.{Fault}
+use Rattle.field.specs.Refusal.{noteOf}
 use Rattle.field.specs.Told.{told}
 use Rattle.field.specs.Field.{taken, number, between, exactly, tenancy, kind, end}
-use Rattle.field.proofs.Sheet.{next, stops, pass, fail}
+use Rattle.field.proofs.Sheet.{next, stops, pass, fail, at-here}
 
 pub told-got : {f : Field} {o : Out ℕ} {v e : ℕ} → told f ≡ o → f ≡ Got v e → o ≡ got v e
 unfolding told
 told-got h q = sym h ∙ ap told q
 
-pub told-refused : {f : Field} {o : Out ℕ} {r : Refusal} → told f ≡ o → f ≡ Refused r → o ≡ refused (numberOf r)
+pub told-refused : {f : Field} {o : Out ℕ} {r : Fault} → told f ≡ o → f ≡ Refused r → o ≡ refused (noteOf r)
 unfolding told
 told-refused h q = sym h ∙ ap told q
 
 module _ (s : List ℕ) (at : ℕ) where
   -- past the end no number is due any more
-  pub number-past : length s < at → number s at ≡ refused 1
-  unfolding number taken
-  number-past h = ap (taken at) (decode-none (drop at s) (length-drop at s ∙ omega arith))
+  pub number-past : length s < at → number s at ≡ refused (note 1 (length s))
+  unfolding number taken pick
+  number-past h = ap (taken (length s) at) (decode-none (drop at s) (length-drop at s ∙ omega arith))
 
   -- what was decoded of `&s[at..]`
-  pub number-of : number s at ≡ taken at (decode (take (length s - at) (drop at s)))
+  pub number-of : number s at ≡ taken (length s) at (decode (take (length s - at) (drop at s)))
   unfolding number
-  number-of = ap (λ (x : List ℕ). taken at (decode x)) (sym (rest s at))
+  number-of = ap (λ (x : List ℕ). taken (length s) at (decode x)) (sym (rest s at))
 
   -- ---- the tenancy that is due
 
@@ -63,34 +64,35 @@ module _ (s : List ℕ) (at : ℕ) where
     module _ (low high under above : ℕ) where
       pub between-got : low ≤ v → v ≤ high → between low high under above s at ≡ got v e
       unfolding between pure
-      between-got l r = next number _ s at h ∙ pass above _ s e (le-leb v high r) ∙ pass under _ s e (le-leb low v l)
+      between-got l r = at-here _ s at ∙ next number _ s at h ∙ pass _ _ s e (le-leb v high r) ∙ pass _ _ s e (le-leb low v l)
 
-      pub between-above : high < v → between low high under above s at ≡ refused above
+      pub between-above : high < v → between low high under above s at ≡ refused (note above at)
       unfolding between
-      between-above r = next number _ s at h ∙ fail above _ s e (lt-leb v high r)
+      between-above r = at-here _ s at ∙ next number _ s at h ∙ fail _ _ s e (lt-leb v high r)
 
-      pub between-under : v ≤ high → v < low → between low high under above s at ≡ refused under
+      pub between-under : v ≤ high → v < low → between low high under above s at ≡ refused (note under at)
       unfolding between
-      between-under r l = next number _ s at h ∙ pass above _ s e (le-leb v high r) ∙ fail under _ s e (lt-leb low v l)
+      between-under r l =
+          at-here _ s at ∙ next number _ s at h ∙ pass _ _ s e (le-leb v high r) ∙ fail _ _ s e (lt-leb low v l)
 
     pub kind-got : (kinds : List ℕ) → listed kinds v ≡ true → kind kinds s at ≡ got v e
     unfolding kind pure
-    kind-got kinds t = next number _ s at h ∙ pass 3 _ s e t
+    kind-got kinds t = at-here _ s at ∙ next number _ s at h ∙ pass _ _ s e t
 
-    pub kind-other : (kinds : List ℕ) → listed kinds v ≡ false → kind kinds s at ≡ refused 3
+    pub kind-other : (kinds : List ℕ) → listed kinds v ≡ false → kind kinds s at ≡ refused (note 3 at)
     unfolding kind
-    kind-other kinds t = next number _ s at h ∙ fail 3 _ s e t
+    kind-other kinds t = at-here _ s at ∙ next number _ s at h ∙ fail _ _ s e t
 
   -- ---- where none does
 
-  module _ {n : ℕ} (h : number s at ≡ refused n) where
+  module _ {n : Note} (h : number s at ≡ refused n) where
     pub between-stops : (low high under above : ℕ) → between low high under above s at ≡ refused n
     unfolding between
-    between-stops low high under above = stops number _ s at h
+    between-stops low high under above = at-here _ s at ∙ stops number _ s at h
 
     pub kind-stops : (kinds : List ℕ) → kind kinds s at ≡ refused n
     unfolding kind
-    kind-stops kinds = stops number _ s at h
+    kind-stops kinds = at-here _ s at ∙ stops number _ s at h
 
   -- ---- the end
 
@@ -98,6 +100,6 @@ module _ (s : List ℕ) (at : ℕ) where
   unfolding end
   end-here h = pick-true _ _ (eq-eqb at (length s) h)
 
-  pub end-extra : (at ≡ length s → ⊥) → end s at ≡ refused 9
+  pub end-extra : (at ≡ length s → ⊥) → end s at ≡ refused (note 9 at)
   unfolding end
   end-extra h = pick-false _ _ (ne-eqb at (length s) h)

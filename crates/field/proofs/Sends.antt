@@ -10,25 +10,30 @@ use Rattle.basics.proofs.Choice.{pick-true, pick-false}
 use Rattle.basics.proofs.Tests.{by-cases}
 use Rattle.field.specs.declared.Written.{Written}
 use Rattle.field.specs.declared.Written.the-variants.{Length, Refused}
-use Rattle.field.specs.declared.Refusal.{Refusal}
+use Rattle.field.specs.declared.Fault.{Fault}
 use Rattle.field.specs.declared.Refusal.the-variants.{NoRoom}
 use Rattle.basics.specs.Buffer.{paste}
 use Rattle.basics.proofs.Buffer.{over-front}
 use Rattle.field.specs.Put.{Laid}
-use Rattle.field.specs.Refusal.{numberOf}
+use Rattle.field.specs.Refusal.{numberOf, faultAt, noteOf}
 use Rattle.field.specs.Send.{Draft, sheet, none, toldWritten, answerTo, leftBy, Sent}
-use Rattle.field.specs.Sheet.{got, refused}
-use Rattle.field.proofs.Unique.{number-injective}
+use Rattle.field.specs.Sheet.{Note, note, got, refused}
+use Rattle.field.proofs.Unique.{note-injective}
 
 -- there is no sheet: refused, and nothing has changed
-pub sent-refused : (e : Refusal) (out : List ℕ) → Sent (none (numberOf e)) out (Refused e) out
+pub sent-refused : (f : Fault) (out : List ℕ) → Sent (none (noteOf f)) out (Refused f) out
 unfolding toldWritten answerTo leftBy
-sent-refused e out = record { answer = refl; held = refl }
+sent-refused f out = record { answer = refl; held = refl }
 
--- it is longer than the buffer: refused with 11, and nothing has changed
-pub sent-long : (bs out : List ℕ) → length out < length bs → Sent (sheet bs) out (Refused NoRoom) out
+-- it is longer than the buffer: refused with 11 and its length, and nothing has changed
+pub sent-long : (bs out : List ℕ) {n : ℕ} → n ≡ length bs → length out < n → Sent (sheet bs) out (Refused (faultAt NoRoom n)) out
 unfolding toldWritten answerTo leftBy
-sent-long bs out h = record { answer = sym (pick-false _ _ (lt-leb _ _ h)); held = sym (pick-false _ _ (lt-leb _ _ h)) }
+sent-long bs out {n} e h =
+    let l : length out < length bs = omega (arith, e) in
+    record {
+      answer = ap (λ (m : ℕ). refused (note 11 m)) e ∙ sym (pick-false _ _ (lt-leb _ _ l));
+      held = sym (pick-false _ _ (lt-leb _ _ l));
+    }
 
 -- it was written from the first byte on
 pub sent-fits : {bs out : List ℕ} {n : ℕ} {after : List ℕ} → Laid out 0 bs after n → Sent (sheet bs) out (Length n) after
@@ -48,17 +53,19 @@ sent-bytes bs out n after w =
     let a : got tt n ≡ got tt (length bs) = w .answer ∙ pick-true _ _ t in
     let k : n ≡ length bs = cc in
     (k, ap (take n) (w .held ∙ pick-true _ _ t) ∙ over-front bs out n (sym k), omega (arith, leb-true (length bs) (length out) t)))
-    (λ f. let a : got tt n ≡ refused 11 = w .answer ∙ pick-false _ _ f in absurd (let z : _≡_ {A = ℕ} 0 1 = cc in omega arith))
+    (λ f. let a : got tt n ≡ refused (note 11 (length bs)) = w .answer ∙ pick-false _ _ f in
+    absurd (let z : _≡_ {A = ℕ} 0 1 = cc in omega arith))
 
 -- why a sheet is not sent: it is longer than the buffer
-pub sent-not : (bs out : List ℕ) (e : Refusal) (after : List ℕ) → Sent (sheet bs) out (Refused e) after
-    → (length out < length bs) × (numberOf e ≡ 11)
+pub sent-not : (bs out : List ℕ) (f : Fault) (after : List ℕ) → Sent (sheet bs) out (Refused f) after
+    → (length out < length bs) × (noteOf f ≡ note 11 (length bs))
 unfolding toldWritten answerTo
-sent-not bs out e after w =
+sent-not bs out f after w =
     by-cases (leb (length bs) (length out))
-    (λ t. absurd (let a : refused (numberOf e) ≡ got tt (length bs) = w .answer ∙ pick-true _ _ t in
+    (λ t. absurd (let a : refused (noteOf f) ≡ got tt (length bs) = w .answer ∙ pick-true _ _ t in
     let z : _≡_ {A = ℕ} 0 1 = cc in omega arith))
-    (λ f. let a : refused (numberOf e) ≡ refused 11 = w .answer ∙ pick-false _ _ f in (leb-false (length bs) (length out) f, cc))
+    (λ l. let a : refused (noteOf f) ≡ refused (note 11 (length bs)) = w .answer ∙ pick-false _ _ l in
+    (leb-false (length bs) (length out) l, cc))
 
 -- two answers that say the same are the same
 pub written-injective : (a b : Written) → toldWritten a ≡ toldWritten b → a ≡ b
@@ -66,8 +73,26 @@ unfolding toldWritten
 written-injective (Length n) (Length m) h = cc
 written-injective (Length n) (Refused q) h = cc
 written-injective (Refused r) (Length m) h = cc
-written-injective (Refused r) (Refused q) h = let n : numberOf r ≡ numberOf q = cc in ap Refused (number-injective r q n)
+written-injective (Refused r) (Refused q) h = let n : noteOf r ≡ noteOf q = cc in ap Refused (note-injective r q n)
 
 -- a draft and a buffer leave one answer and one buffer
 pub sent-unique : (d : Draft) (out : List ℕ) (a b : Written) (x y : List ℕ) → Sent d out a x → Sent d out b y → (a ≡ b) × (x ≡ y)
 sent-unique d out a b x y p q = (written-injective a b (p .answer ∙ sym (q .answer)), p .held ∙ sym (q .held))
+
+-- ---- 11 tells what was needed
+
+-- where there is no sheet, it is not for want of room
+unfoldable pub Roomless : Draft → Type 0
+Roomless (sheet bs) = Unit
+Roomless (none e) = e .number ≡ 11 → ⊥
+
+-- a buffer of the length that 11 told is enough
+pub sent-enough : (d : Draft) (out out′ : List ℕ) (f : Fault) (after : List ℕ) → Roomless d → Sent d out (Refused f) after
+    → f .refusal ≡ NoRoom → f .place ≤ length out′ → answerTo d out′ ≡ got tt (f .place)
+unfolding answerTo toldWritten Roomless
+sent-enough (sheet bs) out out′ f after o w q l =
+    let n : f .place ≡ length bs = ap (λ (x : Note). x .place) (sent-not bs out f after w .1) in
+    let m : length bs ≤ length out′ = omega (arith, n) in pick-true _ _ (le-leb _ _ m) ∙ ap (got tt) (sym n)
+sent-enough (none e) out out′ f after o w q l =
+    let a : refused (noteOf f) ≡ refused e = w .answer in
+    let n : noteOf f ≡ e = cc in absurd (o (sym (ap (λ (x : Note). x .number) n) ∙ ap numberOf q))

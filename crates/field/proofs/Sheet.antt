@@ -2,7 +2,7 @@
 --     next, then          where the first reader ends, the second goes on
 --     stops, halts        a refusal stands
 --     pass, fail          a test that holds, and one that does not
---     then-bind           readers that are grouped otherwise
+--     at-here             a reader that is told its own place
 --     bind-got, after-got, require-got     what an accepted sheet says of each reader on the way
 use mathlib.Core.Path.{_≡_, refl, sym, ap, _∙_}
 use mathlib.Core.Bool.{Bool, true, false}
@@ -11,7 +11,7 @@ use Prim.Native.Nat.{ℕ}
 use native.Mathlib.Omega.{arith}
 use Rattle.basics.specs.Choice.{pick}
 use Rattle.basics.proofs.Choice.{pick-true, pick-false}
-use Rattle.field.specs.Sheet.{Out, got, refused, Parser, andThen, _>>=_, _>>_, pure, require}
+use Rattle.field.specs.Sheet.{Note, Out, got, refused, Parser, andThen, _>>=_, _>>_, pure, here, require}
 
 module _ {A B : Type 0} (p : Parser A) where
   pub next : (k : A → Parser B) (s : List ℕ) (at : ℕ) {a : A} {e : ℕ} → p s at ≡ got a e → (p >>= k) s at ≡ k a s e
@@ -22,15 +22,15 @@ module _ {A B : Type 0} (p : Parser A) where
   unfolding _>>_ andThen
   then q s at h = ap (λ (o : Out A). andThen o (λ a n. q s n)) h
 
-  pub stops : (k : A → Parser B) (s : List ℕ) (at : ℕ) {e : ℕ} → p s at ≡ refused e → (p >>= k) s at ≡ refused e
+  pub stops : (k : A → Parser B) (s : List ℕ) (at : ℕ) {e : Note} → p s at ≡ refused e → (p >>= k) s at ≡ refused e
   unfolding _>>=_ andThen
   stops k s at h = ap (λ (o : Out A). andThen o (λ a n. k a s n)) h
 
-  pub halts : (q : Parser B) (s : List ℕ) (at : ℕ) {e : ℕ} → p s at ≡ refused e → (p >> q) s at ≡ refused e
+  pub halts : (q : Parser B) (s : List ℕ) (at : ℕ) {e : Note} → p s at ≡ refused e → (p >> q) s at ≡ refused e
   unfolding _>>_ andThen
   halts q s at h = ap (λ (o : Out A). andThen o (λ a n. q s n)) h
 
-module _ {B : Type 0} (e : ℕ) (q : Parser B) (s : List ℕ) (at : ℕ) where
+module _ {B : Type 0} (e : Note) (q : Parser B) (s : List ℕ) (at : ℕ) where
   pub pass : {b : Bool} → b ≡ true → (require b e >> q) s at ≡ q s at
   unfolding require
   pass {b} h = then (require b e) q s at (pick-true (got tt at) (refused e) h)
@@ -39,15 +39,9 @@ module _ {B : Type 0} (e : ℕ) (q : Parser B) (s : List ℕ) (at : ℕ) where
   unfolding require
   fail {b} h = halts (require b e) q s at (pick-false (got tt at) (refused e) h)
 
-module _ {A B C : Type 0} where
-  bind-out : (o : Out A) (f : A → ℕ → Out B) (g : B → ℕ → Out C) → andThen (andThen o f) g ≡ andThen o (λ a n. andThen (f a n) g)
-  unfolding andThen
-  bind-out (got a n) f g = refl
-  bind-out (refused m) f g = refl
-
-  pub then-bind : (p : Parser A) (q : Parser B) (k : B → Parser C) (s : List ℕ) (at : ℕ) → ((p >> q) >>= k) s at ≡ (p >> (q >>= k)) s at
-  unfolding _>>=_ _>>_
-  then-bind p q k s at = bind-out (p s at) _ _
+pub at-here : {B : Type 0} (k : ℕ → Parser B) (s : List ℕ) (at : ℕ) → (here >>= k) s at ≡ k at s at
+unfolding here
+at-here k s at = next here k s at refl
 
 -- ---- what an accepted sheet says
 
@@ -73,13 +67,13 @@ module _ {A B : Type 0} (p : Parser A) (s : List ℕ) (at : ℕ) (b : B) (e : �
   after-got q h = step (p s at) (λ a n. q s n) b e h
 
 -- a test that was passed holds, and reads nothing
-pub require-got : (b : Bool) (n : ℕ) (s : List ℕ) (at : ℕ) (u : Unit) (e : ℕ) → require b n s at ≡ got u e → (b ≡ true) × (e ≡ at)
+pub require-got : (b : Bool) (n : Note) (s : List ℕ) (at : ℕ) (u : Unit) (e : ℕ) → require b n s at ≡ got u e → (b ≡ true) × (e ≡ at)
 unfolding require pick
 require-got true n s at u e h = (refl, cc)
 require-got false n s at u e h = absurd (let z : _≡_ {A = ℕ} 0 1 = cc in omega arith)
 
 -- what stands behind a test that was passed
-pub passed : {B : Type 0} (b : Bool) (n : ℕ) (q : Parser B) (s : List ℕ) (at : ℕ) (x : B) (e : ℕ) → (require b n >> q) s at ≡ got x e
+pub passed : {B : Type 0} (b : Bool) (n : Note) (q : Parser B) (s : List ℕ) (at : ℕ) (x : B) (e : ℕ) → (require b n >> q) s at ≡ got x e
     → (b ≡ true) × (q s at ≡ got x e)
 passed b n q s at x e h =
     let w : Step (require b n s at) (λ _ m. q s m) x e = after-got (require b n) s at x e q h in

@@ -39,7 +39,7 @@ spelt-join {s} {at} {mid} {e} {bs} {cs} f g = record {
 
 -- ---- any number
 
-decoded : (s : List ℕ) (at v e : ℕ) (d : Decoded) → taken at d ≡ got v e → (n : ℕ) × (d ≡ value v n) × (e ≡ at + n)
+decoded : (s : List ℕ) (at v e : ℕ) (d : Decoded) → taken (length s) at d ≡ got v e → (n : ℕ) × (d ≡ value v n) × (e ≡ at + n)
 unfolding taken
 decoded s at v e (value w n) h = (n, cc, cc)
 decoded s at v e (bad m) h = absurd (let z : _≡_ {A = ℕ} 0 1 = cc in omega arith)

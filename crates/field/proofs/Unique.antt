@@ -9,9 +9,11 @@ use Rattle.field.specs.declared.Field.the-variants.{Got, Refused}
 use Rattle.field.specs.declared.Refusal.{Refusal}
 use Rattle.field.specs.declared.Refusal.the-variants.{SheetEnds, BadNumber, WrongKind, WrongUnit, WrongTenancy, OutOfRange, NoCopy}
 use Rattle.field.specs.declared.Refusal.the-variants.{NotRising, BytesFollow, NoSettings, NoRoom, Rented, NotAbove, NotTheTenant}
+use Rattle.field.specs.declared.Refusal.the-variants.{BadAmount, BadIndex}
+use Rattle.field.specs.declared.Fault.{Fault}
 use Rattle.field.specs.Put.{PutOne, Laid}
-use Rattle.field.specs.Refusal.{numberOf}
-use Rattle.field.specs.Sheet.{Out}
+use Rattle.field.specs.Refusal.{numberOf, noteOf}
+use Rattle.field.specs.Sheet.{Note, Out}
 use Rattle.field.specs.Told.{told}
 
 -- the refusal of a number of the paper
@@ -30,7 +32,9 @@ named n =
     (pick (eqb n 11) NoRoom
     (pick (eqb n 12) Rented
     (pick (eqb n 13) NotAbove
-    NotTheTenant))))))))))))
+    (pick (eqb n 14) NotTheTenant
+    (pick (eqb n 15) BadAmount
+    BadIndex))))))))))))))
 
 named-number : (r : Refusal) → named (numberOf r) ≡ r
 unfolding named pick
@@ -48,10 +52,19 @@ named-number NoRoom = refl
 named-number Rented = refl
 named-number NotAbove = refl
 named-number NotTheTenant = refl
+named-number BadAmount = refl
+named-number BadIndex = refl
 
 -- no two refusals have one number
 pub number-injective : (a b : Refusal) → numberOf a ≡ numberOf b → a ≡ b
 number-injective a b h = sym (named-number a) ∙ ap named h ∙ named-number b
+
+-- nor two faults one number and one place
+pub note-injective : (f g : Fault) → noteOf f ≡ noteOf g → f ≡ g
+note-injective f g h =
+    let n : f .refusal ≡ g .refusal = number-injective (f .refusal) (g .refusal) (ap (λ (x : Note). x .number) h) in
+    let p : f .place ≡ g .place = ap (λ (x : Note). x .place) h in
+    rw (n, p) refl
 
 -- two answers that say the same are the same
 pub told-injective : (a b : Field) → told a ≡ told b → a ≡ b
@@ -59,7 +72,7 @@ unfolding told
 told-injective (Got v e) (Got w f) h = cc
 told-injective (Got v e) (Refused q) h = cc
 told-injective (Refused r) (Got w f) h = cc
-told-injective (Refused r) (Refused q) h = let n : numberOf r ≡ numberOf q = cc in ap Refused (number-injective r q n)
+told-injective (Refused r) (Refused q) h = let n : noteOf r ≡ noteOf q = cc in ap Refused (note-injective r q n)
 
 -- the readers: whatever the definition says of a sheet and a place, one answer says it
 pub reader-unique : (o : Out ℕ) (a b : Field) → told a ≡ o → told b ≡ o → a ≡ b

@@ -11,13 +11,13 @@ use borrow.Author.Tests.{leb-true}
 use lib.Dec.{leb}
 use lib.ListN.{length}
 use Rattle.basics.specs.Lists.{All, Rises, listed}
-use Rattle.field.specs.Sheet.{got, Parser, _>>=_, _>>_, pure, require, times}
+use Rattle.field.specs.Sheet.{Note, note, got, Parser, _>>=_, _>>_, pure, require, times}
 use Rattle.field.specs.Field.{number, between, tenancy, rising, ascending, kind}
-use Rattle.field.proofs.Sheet.{bind-got, passed, pure-got}
+use Rattle.field.proofs.Sheet.{bind-got, passed, pure-got, at-here}
 
 -- ---- one number
 
-pub one-test : (t : ℕ → Bool) (m : ℕ) (s : List ℕ) (at v e : ℕ)
+pub one-test : (t : ℕ → Bool) (m : Note) (s : List ℕ) (at v e : ℕ)
     → (number >>= λ x. require (t x) m >> pure x) s at ≡ got v e → (number s at ≡ got v e) × (t v ≡ true)
 one-test t m s at v e h =
     let w = bind-got number s at v e (λ x. require (t x) m >> pure x) h in
@@ -25,7 +25,7 @@ one-test t m s at v e h =
     let p = pure-got _ _ s _ _ (g .1) in
     (w .first ∙ ap (λ (x : ℕ). got x (w .mid)) (p .0) ∙ ap (got v) (p .1), ap t (sym (p .0)) ∙ g .0)
 
-pub two-tests : (t u : ℕ → Bool) (m n : ℕ) (s : List ℕ) (at v e : ℕ)
+pub two-tests : (t u : ℕ → Bool) (m n : Note) (s : List ℕ) (at v e : ℕ)
     → (number >>= λ x. require (t x) m >> (require (u x) n >> pure x)) s at ≡ got v e
     → (number s at ≡ got v e) × (t v ≡ true) × (u v ≡ true)
 two-tests t u m n s at v e h =
@@ -39,7 +39,7 @@ module _ (low high under above : ℕ) (s : List ℕ) (at : ℕ) {v e : ℕ} (h :
   pub between-within : (number s at ≡ got v e) × (low ≤ v) × (v ≤ high)
   unfolding between
   between-within =
-      let w = two-tests (λ x. leb x high) (λ x. leb low x) above under s at v e h in
+      let w = two-tests (λ x. leb x high) (λ x. leb low x) (note above at) (note under at) s at v e (sym (at-here _ s at) ∙ h) in
       (w .0, leb-true low v (w .2), leb-true v high (w .1))
 
   pub between-range : (low ≤ v) × (v ≤ high)
@@ -51,7 +51,7 @@ tenancy-within due s at h = let r = between-range _ _ _ _ s at h in (omega arith
 pub kind-within : (kinds : List ℕ) (s : List ℕ) (at : ℕ) {v e : ℕ} → kind kinds s at ≡ got v e → (number s at ≡ got v e)
     × (listed kinds v ≡ true)
 unfolding kind
-kind-within kinds s at {v} {e} h = one-test (listed kinds) 3 s at v e h
+kind-within kinds s at {v} {e} h = one-test (listed kinds) (note 3 at) s at v e (sym (at-here _ s at) ∙ h)
 
 -- ---- lists
 
@@ -64,7 +64,7 @@ ascending-rises high s (suc n) floor at vs e h =
     let w = bind-got (rising floor high) s at vs e (λ v. ascending n (v + 1) high >>= λ rest. pure (v ∷ rest)) h in
     let u = bind-got (ascending n (w .found + 1) high) s (w .mid) vs e (λ rest. pure (w .found ∷ rest)) (w .last) in
     let q = pure-got (w .found ∷ u .found) vs s (u .mid) e (u .last) in
-    let f = between-range floor high 8 6 s at (w .first) in
+    let f = between-range floor high 8 16 s at (w .first) in
     let g = ascending-rises high s n (w .found + 1) (w .mid) (u .found) (u .mid) (u .first) in
     subst (λ (z : List ℕ). (length z ≡ suc n) × Rises floor high z) (q .0) (ap suc (g .0), (f .0, f .1, g .1))
 

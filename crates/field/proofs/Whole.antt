@@ -11,7 +11,7 @@ use lib.Dec.{eqb}
 use lib.ListN.{length}
 use Rattle.basics.proofs.Choice.{pick-true, pick-false}
 use Rattle.basics.proofs.Tests.{by-cases}
-use Rattle.field.specs.Sheet.{Out, got, refused, Parser, andThen, _>>=_, _>>_, pure}
+use Rattle.field.specs.Sheet.{Note, note, Out, got, refused, Parser, andThen, _>>=_, _>>_, pure}
 use Rattle.field.specs.Field.{end, whole}
 use Rattle.field.proofs.Sheet.{next, stops, Step, bind-got, after-got, pure-got}
 
@@ -20,7 +20,7 @@ module _ {A : Type 0} (p : Parser A) (s : List ℕ) (at : ℕ) where
   unfolding whole _>>=_
   whole-as q e h = ap (λ (o : Out A). andThen o (λ a n. (end >> pure a) s n)) h
 
-  pub whole-refused : {n : ℕ} → p s at ≡ refused n → whole p s at ≡ refused n
+  pub whole-refused : {n : Note} → p s at ≡ refused n → whole p s at ≡ refused n
   unfolding whole
   whole-refused h = stops p _ s at h
 
@@ -28,7 +28,7 @@ module _ {A B : Type 0} (p : Parser A) (k : A → Parser B) (s : List ℕ) (at :
   pub whole-next : {a : A} {e : ℕ} → p s at ≡ got a e → whole (p >>= k) s at ≡ whole (k a) s e
   whole-next {a} {e} h = whole-as (p >>= k) s at (k a) e (next p k s at h)
 
-  pub whole-stops : {n : ℕ} → p s at ≡ refused n → whole (p >>= k) s at ≡ refused n
+  pub whole-stops : {n : Note} → p s at ≡ refused n → whole (p >>= k) s at ≡ refused n
   whole-stops h = whole-refused (p >>= k) s at (stops p k s at h)
 
 -- ---- where it ends
@@ -38,7 +38,7 @@ unfolding end
 end-got s at v e h =
     by-cases (eqb at (length s))
     (λ t. let g : got 0 at ≡ got v e = sym (pick-true _ _ t) ∙ h in (eqb-true _ _ t, cc))
-    (λ f. let g : refused 9 ≡ got v e = sym (pick-false _ _ f) ∙ h in absurd (let z : _≡_ {A = ℕ} 0 1 = cc in omega arith))
+    (λ f. let g : refused (note 9 at) ≡ got v e = sym (pick-false _ _ f) ∙ h in absurd (let z : _≡_ {A = ℕ} 0 1 = cc in omega arith))
 
 -- a sheet that is accepted ends where its fields do
 pub whole-got : {A : Type 0} (p : Parser A) (s : List ℕ) (a : A) (e : ℕ) → whole p s 0 ≡ got a e → (p s 0 ≡ got a e) × (e ≡ length s)

@@ -1,5 +1,5 @@
-pub mod Refusal
 pub mod Sheet
+pub mod Refusal
 pub mod Field
 pub mod Told
 pub mod Put

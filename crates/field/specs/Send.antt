@@ -10,21 +10,21 @@ use Rattle.basics.specs.Choice.{pick}
 use Rattle.field.specs.declared.Written.{Written}
 use Rattle.field.specs.declared.Written.the-variants.{Length, Refused}
 use Rattle.basics.specs.Buffer.{over}
-use Rattle.field.specs.Refusal.{numberOf}
-use Rattle.field.specs.Sheet.{Out, got, refused}
+use Rattle.field.specs.Refusal.{noteOf}
+use Rattle.field.specs.Sheet.{Note, Out, got, refused, note}
 
 pub data Draft : Type 0 where
   sheet : List ℕ → Draft
-  none : ℕ → Draft
+  none : Note → Draft
 
--- the length written, or a refusal's number
+-- the length written, or a refusal
 unfoldable pub toldWritten : Written → Out Unit
 toldWritten (Length n) = got tt n
-toldWritten (Refused e) = refused (numberOf e)
+toldWritten (Refused f) = refused (noteOf f)
 
--- a sheet that is longer than the buffer is refused with 11, last of all
+-- a sheet that is longer than the buffer is refused with 11, last of all; that tells its length
 unfoldable pub answerTo : Draft → List ℕ → Out Unit
-answerTo (sheet bs) out = pick (leb (length bs) (length out)) (got tt (length bs)) (refused 11)
+answerTo (sheet bs) out = pick (leb (length bs) (length out)) (got tt (length bs)) (refused (note 11 (length bs)))
 answerTo (none e) out = refused e
 
 -- the sheet stands at the start of the buffer; on refusal nothing has changed

@@ -23,7 +23,7 @@ pub enum Refusal {
     WrongUnit,
     // Not rented, or the tenancy differs.
     WrongTenancy,
-    // A count or value is out of its range.
+    // A count is out of its range; in a writer also tenancy 0, or lists that are unequal or broken.
     OutOfRange,
     // A block with no copies.
     NoCopy,
@@ -41,24 +41,34 @@ pub enum Refusal {
     NotAbove,
     // Return while not rented, or of another tenancy.
     NotTheTenant,
+    // A cost, load, delay or plan time is out of its range.
+    BadAmount,
+    // A disk or block number is out of its range.
+    BadIndex,
+}
+
+// A refusal, and the place that it tells: a byte of the sheet or its end; with NoRoom what was needed; 0 where no sheet is at fault.
+pub struct Fault {
+    pub refusal: Refusal,
+    pub place: usize,
 }
 
 // What reading a field gives: its value and the place after it, or the refusal.
 pub enum Field {
     Got(u32, usize),
-    Refused(Refusal),
+    Refused(Fault),
 }
 
 // What is answered to a sheet or a call that changes a unit.
 pub enum Verdict {
     Accepted,
-    Refused(Refusal),
+    Refused(Fault),
 }
 
 // What a writer of sheets answers: the length written, or the refusal.
 pub enum Written {
     Length(usize),
-    Refused(Refusal),
+    Refused(Fault),
 }
 
 // The paper's number of a refusal.
@@ -80,6 +90,8 @@ pub fn number_of(e: Refusal) -> u32
         Refusal::Rented => 12,
         Refusal::NotAbove => 13,
         Refusal::NotTheTenant => 14,
+        Refusal::BadAmount => 15,
+        Refusal::BadIndex => 16,
     }
 }
 
@@ -88,12 +100,21 @@ pub fn number(s: &[u8], at: usize) -> Field
     ensures { λ r. ⌜ told r ≡ numberAt (now (s .entry)) at ⌝ }
 {
     if s.len() < at {
-        return Field::Refused(Refusal::SheetEnds);
+        return Field::Refused(Fault {
+            refusal: Refusal::SheetEnds,
+            place: s.len(),
+        });
     }
     match number::read(&s[at..]) {
         Number::Value(v, n) => Field::Got(v, at + n),
-        Number::Ends => Field::Refused(Refusal::SheetEnds),
-        Number::Malformed => Field::Refused(Refusal::BadNumber),
+        Number::Ends => Field::Refused(Fault {
+            refusal: Refusal::SheetEnds,
+            place: s.len(),
+        }),
+        Number::Malformed => Field::Refused(Fault {
+            refusal: Refusal::BadNumber,
+            place: at,
+        }),
     }
 }
 
@@ -104,10 +125,16 @@ pub fn between(s: &[u8], at: usize, low: u32, high: u32, under: Refusal, above: 
     match number(s, at) {
         Field::Got(v, next) => {
             if high < v {
-                return Field::Refused(above);
+                return Field::Refused(Fault {
+                    refusal: above,
+                    place: at,
+                });
             }
             if v < low {
-                return Field::Refused(under);
+                return Field::Refused(Fault {
+                    refusal: under,
+                    place: at,
+                });
             }
             Field::Got(v, next)
         }
@@ -133,7 +160,7 @@ pub fn inside(s: &[u8], at: usize, low: u32, high: u32, refusal: Refusal) -> Fie
 pub fn rising(s: &[u8], at: usize, floor: u32, high: u32) -> Field
     ensures { λ r. ⌜ told r ≡ risingOf floor high (now (s .entry)) at ⌝ }
 {
-    between(s, at, floor, high, Refusal::NotRising, Refusal::OutOfRange)
+    between(s, at, floor, high, Refusal::NotRising, Refusal::BadIndex)
 }
 
 // The tenancy that is due; where none is, every number is refused.
@@ -169,7 +196,10 @@ pub fn kind(s: &[u8], kinds: &[u32]) -> Field
             if among(kinds, k) {
                 Field::Got(k, next)
             } else {
-                Field::Refused(Refusal::WrongKind)
+                Field::Refused(Fault {
+                    refusal: Refusal::WrongKind,
+                    place: 0,
+                })
             }
         }
         Field::Refused(e) => Field::Refused(e),
@@ -206,7 +236,10 @@ pub fn end(s: &[u8], at: usize) -> Field
     if at == s.len() {
         Field::Got(0, at)
     } else {
-        Field::Refused(Refusal::BytesFollow)
+        Field::Refused(Fault {
+            refusal: Refusal::BytesFollow,
+            place: at,
+        })
     }
 }
 

@@ -11,6 +11,7 @@ use lib.Dec.{ltb}
 use Rattle.basics.proofs.Tests.{by-cases}
 use Rattle.settings.specs.Table.{noTable}
 use Rattle.unit.specs.declared.Unit.{Unit as Shelf}
+use Rattle.field.specs.Sheet.{Note, unplaced}
 use Rattle.unit.specs.Life.{accepted, refused, Outcome, takes, refuses, rent}
 use Rattle.unit.specs.Unit.{newUnit, tenanted}
 use Rattle.unit.proofs.Lives.{rent-rented, rent-low, rent-taken}
@@ -22,18 +23,18 @@ record Accepts (u : Shelf) (t : ℕ) : Type 0 where
   above : u .last < t
   after : rent u t .unit ≡ tenanted u t
 
-pub clash : {X : Type 0} (n : ℕ) → refused n ≡ accepted → X
+pub clash : {X : Type 0} (n : Note) → refused n ≡ accepted → X
 clash n h = absurd (let z : _≡_ {A = ℕ} 0 1 = cc in omega arith)
 
 accepts : (u : Shelf) (t : ℕ) → rent u t .verdict ≡ accepted → Accepts u t
 unfolding takes refuses
 accepts u t h =
     by-cases (u .rented)
-    (λ r. clash 12 (sym (ap (λ (o : Outcome). o .verdict) (rent-rented u t r)) ∙ h))
+    (λ r. clash (unplaced 12) (sym (ap (λ (o : Outcome). o .verdict) (rent-rented u t r)) ∙ h))
     (λ f.
     by-cases (ltb (u .last) t)
     (λ l. record { above = ltb-true _ _ l; after = ap (λ (o : Outcome). o .unit) (rent-taken u t f (ltb-true _ _ l)) })
-    (λ l. clash 13 (sym (ap (λ (o : Outcome). o .verdict) (rent-low u t f (ltb-false _ _ l))) ∙ h)))
+    (λ l. clash (unplaced 13) (sym (ap (λ (o : Outcome). o .verdict) (rent-low u t f (ltb-false _ _ l))) ∙ h)))
 
 tenanted-same : (u v : Shelf) (t : ℕ) → u .number ≡ v .number → tenanted u t ≡ tenanted v t
 unfolding tenanted

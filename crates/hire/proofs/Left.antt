@@ -12,7 +12,7 @@ use borrow.Author.Tests.{ltb-true, ltb-false}
 use lib.Dec.{eqb, ltb}
 use Rattle.basics.proofs.Tests.{by-cases}
 use Rattle.basics.proofs.Choice.{pick-elim}
-use Rattle.field.specs.Sheet.{Out, got, refused as refusedSheet}
+use Rattle.field.specs.Sheet.{unplaced, Out, got, refused as refusedSheet}
 use Rattle.settings.specs.declared.Table.{Table}
 use Rattle.settings.specs.Sheet.{settingsSheet}
 use Rattle.settings.specs.Table.{noTable}
@@ -26,7 +26,7 @@ use Rattle.unit.specs.Life.{accepted, refused, Outcome, takes, refuses, rent, s
 use Rattle.unit.specs.Request.{askedOf}
 use Rattle.unit.specs.Unit.{newUnit, tenancyOf, tenanted, returned}
 use Rattle.unit.proofs.Lives.{tenancy-free, rent-low, rent-taken, back-free}
-use Rattle.hire.specs.Agrees.{Alike, Agrees, end, same, part}
+use Rattle.hire.specs.Agrees.{Alike, Parts, Agrees, end, same, part}
 use Rattle.hire.specs.Calls.{Call, renting, setting, asking, returning, Reply, said, Comes, sent, Does, Runs, none, next}
 use Rattle.hire.proofs.Clause.{clash, rent-same}
 use Rattle.hire.proofs.Runs.{runs-unique, unit-number, unit-sound}
@@ -39,7 +39,7 @@ unfolding giveBack takes refuses returned
 bare u t =
     pick-elim
     (λ (o : Outcome). o .verdict ≡ accepted → o .unit ≡ record { number = u .number; last = u .last; rented = false; table = noTable })
-    (u .rented && eqb t (u .last)) _ _ (λ _ _. refl) (λ _ h. clash 14 h)
+    (u .rented && eqb t (u .last)) _ _ (λ _ _. refl) (λ _ h. clash (unplaced 14) h)
 
 pub returned-bare : (u : Shelf) (t : ℕ) (v : Shelf) → Does u (returning t) (said accepted) v
     → v ≡ record { number = u .number; last = u .last; rented = false; table = noTable }
@@ -68,11 +68,11 @@ settled-free u f s (got T e) h = absurd (omega (arith, tenancy-free u f, accepte
 
 -- ---- two units that are alike, call by call
 
--- one call to both: one reply, and the units stay or are then one; or a Rent that one of the two refuses with 13
+-- one call to both: one reply, and the units stay or are then one; or a Rent that one of the two refuses with 13 and the other accepts
 data Step (u v : Shelf) (r s : Reply) (x y : Shelf) : Call → Type 0 where
   stay : {c : Call} → r ≡ s → x ≡ u → y ≡ v → Step u v r s x y c
   meet : {c : Call} → r ≡ s → x ≡ y → Step u v r s x y c
-  apart : {t : ℕ} → (r ≡ said (refused 13)) ⊎ (s ≡ said (refused 13)) → Step u v r s x y (renting t)
+  apart : {t : ℕ} → Parts r s → Step u v r s x y (renting t)
 
 settled-verdict : (u v : Shelf) (o : Out Table) → settled u o .verdict ≡ settled v o .verdict
 unfolding settled takes refuses
@@ -121,13 +121,17 @@ module _ {u v : Shelf} (k : Alike u v) where
       let ov : rent v t ≡ takes (tenanted v t) = rent-taken v t (k .free′) (ltb-true _ _ b) in
       meet (p .0 ∙ ap (λ (o : Outcome). said (o .verdict)) ou ∙ sym (ap (λ (o : Outcome). said (o .verdict)) ov) ∙ sym (q .0))
       (p .1 ∙ rent-same u t (ap (λ (o : Outcome). o .verdict) ou) v (k .number) (ap (λ (o : Outcome). o .verdict) ov) ∙ sym (q .1)))
-      (λ b. apart (inr (q .0 ∙ ap (λ (o : Outcome). said (o .verdict)) (rent-low v t (k .free′) (ltb-false _ _ b))))))
-      (λ a.
-      let ou : rent u t ≡ refuses u 13 = rent-low u t (k .free) (ltb-false _ _ a) in
-      by-cases (ltb (v .last) t)
-      (λ b. apart (inl (p .0 ∙ ap (λ (o : Outcome). said (o .verdict)) ou)))
       (λ b.
-      let ov : rent v t ≡ refuses v 13 = rent-low v t (k .free′) (ltb-false _ _ b) in
+      let ov : rent v t ≡ refuses v (unplaced 13) = rent-low v t (k .free′) (ltb-false _ _ b) in
+      apart (inr (p .0 ∙ ap (λ (o : Outcome). said (o .verdict)) ou, q .0 ∙ ap (λ (o : Outcome). said (o .verdict)) ov))))
+      (λ a.
+      let ou : rent u t ≡ refuses u (unplaced 13) = rent-low u t (k .free) (ltb-false _ _ a) in
+      by-cases (ltb (v .last) t)
+      (λ b.
+      let ov : rent v t ≡ takes (tenanted v t) = rent-taken v t (k .free′) (ltb-true _ _ b) in
+      apart (inl (p .0 ∙ ap (λ (o : Outcome). said (o .verdict)) ou, q .0 ∙ ap (λ (o : Outcome). said (o .verdict)) ov)))
+      (λ b.
+      let ov : rent v t ≡ refuses v (unplaced 13) = rent-low v t (k .free′) (ltb-false _ _ b) in
       stay (p .0 ∙ ap (λ (o : Outcome). said (o .verdict)) ou ∙ sym (ap (λ (o : Outcome). said (o .verdict)) ov) ∙ sym (q .0))
       (p .1 ∙ ap (λ (o : Outcome). o .unit) ou)
       (q .1 ∙ ap (λ (o : Outcome). o .unit) ov)))

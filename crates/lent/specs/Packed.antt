@@ -2,10 +2,10 @@
 --     refusals, blocksAt, ..         how many values a field has; what it is multiplied by, where it is not the lowest
 --     packWritten, packPlan, packRefused     what is accepted; what is refused
 --     writerAnswer, readerAnswer     what is answered
---     refusalIn, lengthIn, blocksIn, timeIn, sizeIn     what a caller takes out
+--     refusalIn, placeIn, lengthIn, blocksIn, timeIn, sizeIn     what a caller takes out
 --     Fits32, FitsBits               values that have room in their bits
 use Prim.Native.Nat.{ℕ, _+_, _*_, _/_, _%_, _^_, _<_}
-use Rattle.field.specs.Sheet.{Out, got, refused}
+use Rattle.field.specs.Sheet.{Note, Out, got, refused}
 use Rattle.field.specs.declared.Written.{Written}
 use Rattle.field.specs.declared.Written.the-variants.{Length, Refused}
 use Rattle.plan.specs.declared.Head.{Head}
@@ -17,7 +17,7 @@ use Rattle.plan.specs.declared.Answer.the-variants.{Refused as Not}
 abbrev pub refusals : ℕ
 refusals = 2 ^ 8
 
--- bits 32 to 63 the length written
+-- bits 32 to 63 the length written, or the place of a refusal
 abbrev pub lengthAt : ℕ
 lengthAt = 2 ^ 32
 
@@ -49,9 +49,9 @@ packWritten n = n * lengthAt
 unfoldable pub packPlan : ℕ → ℕ → ℕ → ℕ
 packPlan q r m = q * blocksAt + r * timeAt + m * sizeAt
 
--- the number alone: all other bits are 0
-abbrev pub packRefused : ℕ → ℕ
-packRefused e = e
+-- the number and the place: all other bits are 0
+unfoldable pub packRefused : Note → ℕ
+packRefused e = e .number + e .place * lengthAt
 
 -- what a writer answers
 unfoldable pub writerAnswer : Out Unit → ℕ
@@ -66,6 +66,9 @@ readerAnswer (refused e) = packRefused e
 unfoldable pub refusalIn : ℕ → ℕ
 refusalIn a = a % refusals
 
+unfoldable pub placeIn : ℕ → ℕ
+placeIn a = a / lengthAt
+
 unfoldable pub lengthIn : ℕ → ℕ
 lengthIn a = a / lengthAt
 
@@ -78,12 +81,12 @@ timeIn a = a / timeAt % times
 unfoldable pub sizeIn : ℕ → ℕ
 sizeIn a = a / sizeAt % counts
 
--- a length of 32 bits
+-- a length or a place of 32 bits
 unfoldable pub Fits32 : Written → Type 0
 Fits32 (Length n) = n < lengths
-Fits32 (Refused e) = Unit
+Fits32 (Refused f) = f .place < lengths
 
--- Q and m of 11 bits, R of 31
+-- Q and m of 11 bits, R of 31, a place of 32
 unfoldable pub FitsBits : Answer → Type 0
 FitsBits (Accepted h) = (h .blocks < counts) × (h .time < times) × (h .size < counts)
-FitsBits (Not e) = Unit
+FitsBits (Not f) = f .place < lengths

@@ -1,7 +1,7 @@
 // Lists lent as bytes, lowest byte first, and answers of several numbers as one.
 use basics::BLOCKS;
 use basics::DISKS;
-use field::Refusal;
+use field::Fault;
 use field::Written;
 use plan::Answer;
 ghost use mathlib.Core.Path.{_≡_};
@@ -9,12 +9,12 @@ ghost use Prim.Native.Nat.{ℕ, _+_, _*_, _/_, _≤_, _<_};
 ghost use lib.ListN.{length, take, replicate};
 ghost use Rattle.basics.specs.Limits.{disksMost, blocksMost};
 ghost use Rattle.field.specs.Put.{spellAll};
-ghost use Rattle.field.specs.Refusal.{numberOf};
+ghost use Rattle.field.specs.Refusal.{noteOf};
 ghost use Rattle.field.specs.Send.{toldWritten};
 ghost use Rattle.basics.specs.Buffer.{over};
 ghost use Rattle.plan.specs.Told.{toldPlan};
 ghost use Rattle.lent.specs.Numbers.{numberAt, bytesOf, numbers, usable, Room};
-ghost use Rattle.lent.specs.Packed.{packRefused, writerAnswer, readerAnswer, Fits32, FitsBits};
+ghost use Rattle.lent.specs.Packed.{lengths, packRefused, writerAnswer, readerAnswer, Fits32, FitsBits};
 
 // What Q, R and m are multiplied by in the plan reader's answer: 2 ^ 8, 2 ^ 19, 2 ^ 50.
 const BLOCKS_AT: u64 = 256;
@@ -23,14 +23,16 @@ const TIME_AT: u64 = 524_288;
 
 const SIZE_AT: u64 = 1_125_899_906_842_624;
 
-// The upper 32 of 64 bits count this many: a writer's length, and the high four of eight bytes.
+// The upper 32 of 64 bits count this many: a writer's length, a refusal's place, and the high four of eight bytes.
 const UPPER: u64 = 4_294_967_296;
 
-// A refusal's answer: its number alone.
-pub fn refuse(e: Refusal) -> u64
-    ensures { λ r. ⌜ r ≡ packRefused (numberOf e) ⌝ }
+// A refusal's answer: its number, and its place from bit 32 on.
+pub fn refuse(f: Fault) -> u64
+    requires { ⌜ f .place < lengths ⌝ }
+    ensures { λ r. ⌜ r ≡ packRefused (noteOf f) ⌝ }
 {
-    field::number_of(e) as u64
+    let e = f.refusal;
+    field::number_of(e) as u64 + f.place as u64 * UPPER
 }
 
 // A writer's answer: the length from bit 32 on, or the refusal.

@@ -33,11 +33,11 @@ unfolding decimal digitsBy
 decimal-one v h = sym (pick-true _ _ (lt-ltb v 10 h) ∙ ap (λ (d : ℕ). d ∷ []) (digit-low v h))
 
 -- a larger one has its last digit last
-pub decimal-more : (v : ℕ) → 10 ≤ v → v < 2 ^ 32 → decimal (v / 10) ++ ((48 + v % 10) ∷ []) ≡ decimal v
+pub decimal-more : (v : ℕ) → 10 ≤ v → v < 2 ^ 64 → decimal (v / 10) ++ ((48 + v % 10) ∷ []) ≡ decimal v
 unfolding decimal digitsBy
 decimal-more v h l =
-    sym (pick-false _ _ (le-ltb v 10 h) ∙ ap (λ (r : List ℕ). r ++ (digit (v % 10) ∷ [])) (sym (enough 8 (v / 10) (omega arith)))
-    ∙ ap (λ (d : ℕ). digitsBy 9 (v / 10) ++ (d ∷ [])) (digit-low (v % 10) (omega arith)))
+    sym (pick-false _ _ (le-ltb v 10 h) ∙ ap (λ (r : List ℕ). r ++ (digit (v % 10) ∷ [])) (sym (enough 18 (v / 10) (omega arith)))
+    ∙ ap (λ (d : ℕ). digitsBy 19 (v / 10) ++ (d ∷ [])) (digit-low (v % 10) (omega arith)))
 
 digits-bound : (k v : ℕ) → length (digitsBy k v) ≤ suc k
 unfolding digitsBy
@@ -47,7 +47,10 @@ digits-bound (suc k) v =
     (λ _. omega arith)
     (λ _. omega (arith, length-append (digitsBy k (v / 10)) (digit (v % 10) ∷ []), digits-bound k (v / 10)))
 
--- ten digits at the most, and a space
-pub spaced-bound : (v : ℕ) → length (spaced v) ≤ 11
+-- twenty digits at the most, and a space
+abbrev pub spacedMost : ℕ
+spacedMost = 21
+
+pub spaced-bound : (v : ℕ) → length (spaced v) ≤ spacedMost
 unfolding spaced decimal
-spaced-bound v = omega (arith, digits-bound 9 v)
+spaced-bound v = omega (arith, digits-bound 19 v)

@@ -2,7 +2,7 @@
 use mathlib.Core.Path.{_≡_, sym, _∙_, subst}
 use mathlib.Core.Bool.{false}
 use mathlib.Core.List.{List, [], _∷_, _++_, append-assoc}
-use Prim.Native.Nat.{ℕ, _≤_, _<_}
+use Prim.Native.Nat.{ℕ, _+_, _*_, _≤_, _<_}
 use native.Mathlib.Omega.{arith}
 use borrow.Author.Tests.{le-leb, lt-leb}
 use lib.Dec.{leb}
@@ -19,7 +19,7 @@ use Rattle.line.specs.Line.{lineMost, sheetMost, feed, word-plan, bar, p
 use Rattle.line.specs.Printed.{Printed}
 use Rattle.line.specs.Parts.{Adds}
 use Rattle.line.proofs.Adding.{adds-line, adds-join, no-line}
-use Rattle.line.proofs.Digits.{spaced-bound}
+use Rattle.line.proofs.Digits.{spacedMost, spaced-bound}
 
 -- a line that is chosen
 pub printed-same : {xs ys out after : List ℕ} {n : ℕ} → xs ≡ ys → Printed xs out n after → Printed ys out n after
@@ -40,6 +40,21 @@ unfolding feed
 said-number word v e l m a =
     printed-same (sym e)
     (adds-line a (omega (arith, length-append word (spaced v ++ (10 ∷ [])), length-append (spaced v) (10 ∷ []), spaced-bound v)))
+
+-- a word, a number and a place
+pub said-placed : {line out after : List ℕ} {n : ℕ} (word : List ℕ) (v p : ℕ) → line ≡ word ++ (spaced v ++ (spaced p ++ feed))
+    → length word ≤ 8 → length out ≡ lineMost → Adds (word ++ (spaced v ++ (spaced p ++ feed))) out 0 after n → Printed line out n after
+unfolding feed
+said-placed word v p e l m a =
+    printed-same (sym e)
+    (adds-line a (omega (
+      arith,
+      length-append word (spaced v ++ (spaced p ++ (10 ∷ []))),
+      length-append (spaced v) (spaced p ++ (10 ∷ [])),
+      length-append (spaced p) (10 ∷ []),
+      spaced-bound v,
+      spaced-bound p,
+    )))
 
 -- ---- a plan
 
@@ -64,14 +79,14 @@ module _ (unit t : ℕ) (p : Plan) (out : List ℕ) where
   lists : List ℕ
   lists = bar ++ (spellAll spaced (p .disks) ++ (bar ++ (spellAll spaced (p .short) ++ feed)))
 
-  head-bound : length head ≤ 48
+  head-bound : length head ≤ 4 + 4 * spacedMost
   unfolding head word-plan
   head-bound =
-      let fields : List ℕ = spellAll spaced (unit ∷ t ∷ length (p .disks) ∷ p .time ∷ []) in
-      omega (arith, length-append (ascii "plan") fields, spell-bound spaced 11 spaced-bound (unit ∷ t ∷ length (p .disks) ∷ p .time ∷ []))
+      let fields : List ℕ = unit ∷ t ∷ length (p .disks) ∷ p .time ∷ [] in
+      omega (arith, length-append (ascii "plan") (spellAll spaced fields), spell-bound spaced spacedMost spaced-bound fields)
 
   module _ (k : length (p .disks) ≤ blocksMost) (l : length (p .short) ≤ blocksMost) where
-    lists-bound : length lists ≤ 22533
+    lists-bound : length lists ≤ 5 + 2 * (blocksMost * spacedMost)
     unfolding lists bar feed
     lists-bound =
         let ds : List ℕ = spellAll spaced (p .disks) in
@@ -80,9 +95,9 @@ module _ (unit t : ℕ) (p : Plan) (out : List ℕ) where
           arith,
           length-append ds (32 ∷ 124 ∷ (bs ++ (10 ∷ []))),
           length-append bs (10 ∷ []),
-          spell-bound spaced 11 spaced-bound
+          spell-bound spaced spacedMost spaced-bound
               (p .disks),
-          spell-bound spaced 11 spaced-bound (p .short),
+          spell-bound spaced spacedMost spaced-bound (p .short),
         )
 
     chosen : head ++ lists ≡ planLine unit t p

@@ -1,5 +1,5 @@
 -- The lines that the programs print, in ASCII; each ends with one line feed.
---     spoken        a word, or a word and a number
+--     spoken        a word, or a word and one or two numbers
 --     planLine      a plan's fields
 --     sheetLine     a plan sheet's bytes
 use Prim.Native.Nat.{ℕ, _-_, _/_}
@@ -11,12 +11,12 @@ use Rattle.field.specs.Put.{spellAll}
 use Rattle.plan.specs.Plan.{Plan}
 use Rattle.plan.specs.Draft.{counted}
 use Rattle.line.specs.declared.Word.{Word}
-use Rattle.line.specs.declared.Word.the-variants.{Rented, Set, Returned, Refused, Stopped}
+use Rattle.line.specs.declared.Word.the-variants.{Rented, Set, Returned, Refused, RefusedAt, Stopped}
 use Rattle.line.specs.Text.{ascii, spaced, hex}
 
 -- a program's buffer for a line; the longest sheet that has room there, in hex behind "plan " and before the line feed
 abbrev pub lineMost : ℕ
-lineMost = 24576
+lineMost = 65536
 
 abbrev pub sheetMost : ℕ
 sheetMost = (lineMost - 6) / 2
@@ -47,12 +47,13 @@ word-plan = ascii "plan"
 unfoldable pub bar : List ℕ
 bar = ascii " |"
 
--- one word, or a word and a number
+-- one word, or a word and a number; a refusal with its place, or without
 unfoldable pub spoken : Word → List ℕ
 spoken Rented = word-rented ++ feed
 spoken Set = word-set ++ feed
 spoken Returned = word-returned ++ feed
 spoken (Refused n) = word-refused ++ (spaced n ++ feed)
+spoken (RefusedAt n p) = word-refused ++ (spaced n ++ (spaced p ++ feed))
 spoken (Stopped n) = word-stopped ++ (spaced n ++ feed)
 
 -- plan, unit, tenancy, Q, R, the disks by block, the short set, parted by single spaces

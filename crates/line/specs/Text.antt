@@ -25,9 +25,9 @@ unfoldable pub digitsBy : ℕ → ℕ → List ℕ
 digitsBy zero v = digit v ∷ []
 digitsBy (suc k) v = pick (ltb v 10) (digit v ∷ []) (digitsBy k (v / 10) ++ (digit (v % 10) ∷ []))
 
--- ten digits at the most
+-- twenty digits at the most
 unfoldable pub decimal : ℕ → List ℕ
-decimal v = digitsBy 9 v
+decimal v = digitsBy 19 v
 
 -- a number behind a single space
 unfoldable pub spaced : ℕ → List ℕ

@@ -1,6 +1,6 @@
 // What the programs print: lines of text at the start of a lent buffer, which has room for the longest.
 use basics::BLOCKS;
-use field::Refusal;
+use field::Fault;
 ghost use Prim.Native.Nat.{_<_};
 ghost use mathlib.Core.Path.{_≡_};
 ghost use mathlib.Core.List.{[], _∷_, _++_};
@@ -13,18 +13,19 @@ ghost use Rattle.line.specs.Printed.{Printed};
 ghost use Rattle.line.specs.Parts.{Adds};
 
 // The bytes of a line's buffer, and of the longest sheet that has room there in hex.
-pub const LINE_MOST: usize = 24576;
+pub const LINE_MOST: usize = 65536;
 
 pub const SHEET_MOST: usize = (LINE_MOST - 6) / 2;
 
 pub type Line = [u8; LINE_MOST];
 
-// What a line can say in a word, or in a word and a number.
+// What a line can say in a word, or in a word and one or two numbers.
 pub enum Word {
     Rented,
     Set,
     Returned,
     Refused(u32),
+    RefusedAt(u32, usize),
     Stopped(u32),
 }
 
@@ -52,7 +53,7 @@ fn put_text(text: &[u8], out: &mut [u8], at: usize) -> usize
 }
 
 // The digits before the last one go first.
-fn put_decimal(v: u32, out: &mut [u8], at: usize) -> usize
+fn put_decimal(v: u64, out: &mut [u8], at: usize) -> usize
     ensures { λ r. ⌜ Adds (decimal v) (now (out .entry)) at (now (out .exit)) r ⌝ }
 {
     if v < 10 {
@@ -62,7 +63,7 @@ fn put_decimal(v: u32, out: &mut [u8], at: usize) -> usize
     put_byte(48 + (v % 10) as u8, out, p)
 }
 
-fn put_spaced(v: u32, out: &mut [u8], at: usize) -> usize
+fn put_spaced(v: u64, out: &mut [u8], at: usize) -> usize
     ensures { λ r. ⌜ Adds (spaced v) (now (out .entry)) at (now (out .exit)) r ⌝ }
 {
     let p = put_byte(32, out, at);
@@ -75,7 +76,7 @@ fn put_disks(xs: &[u8], out: &mut [u8], at: usize) -> usize
     let mut p = at;
     let mut i: usize = 0;
     while i < xs.len() {
-        p = put_spaced(xs[i] as u32, out, p);
+        p = put_spaced(xs[i] as u64, out, p);
         i += 1;
     }
     p
@@ -87,7 +88,7 @@ fn put_blocks(xs: &[u16], out: &mut [u8], at: usize) -> usize
     let mut p = at;
     let mut i: usize = 0;
     while i < xs.len() {
-        p = put_spaced(xs[i] as u32, out, p);
+        p = put_spaced(xs[i] as u64, out, p);
         i += 1;
     }
     p
@@ -134,8 +135,18 @@ fn numbered(word: &[u8], n: u32, out: &mut [u8]) -> usize
     ensures { λ r. ⌜ Adds (now (word .entry) ++ (spaced n ++ feed)) (now (out .entry)) 0 (now (out .exit)) r ⌝ }
 {
     let p = put_text(word, out, 0);
-    let q = put_spaced(n, out, p);
+    let q = put_spaced(n as u64, out, p);
     put_byte(10, out, q)
+}
+
+// A word, a number and a place, and the end of the line.
+fn placed(word: &[u8], n: u32, place: usize, out: &mut [u8]) -> usize
+    ensures { λ r. ⌜ Adds (now (word .entry) ++ (spaced n ++ (spaced place ++ feed))) (now (out .entry)) 0 (now (out .exit)) r ⌝ }
+{
+    let p = put_text(word, out, 0);
+    let q = put_spaced(n as u64, out, p);
+    let e = put_spaced(place as u64, out, q);
+    put_byte(10, out, e)
 }
 
 pub fn say(w: Word, line: &mut Line) -> usize
@@ -146,15 +157,25 @@ pub fn say(w: Word, line: &mut Line) -> usize
         Word::Set => plain(b"set", line),
         Word::Returned => plain(b"returned", line),
         Word::Refused(n) => numbered(b"refused", n, line),
+        Word::RefusedAt(n, place) => placed(b"refused", n, place, line),
         Word::Stopped(n) => numbered(b"stopped", n, line),
     }
 }
 
-// The line of a refusal.
-pub fn refuse(e: Refusal, line: &mut Line) -> usize
-    ensures { λ r. ⌜ Printed (spoken (Word.Refused (numberOf e))) (now (line .entry)) r (now (line .exit)) ⌝ }
+// The line of a refusal, without its place.
+pub fn refuse(f: Fault, line: &mut Line) -> usize
+    ensures { λ r. ⌜ Printed (spoken (Word.Refused (numberOf (f .refusal)))) (now (line .entry)) r (now (line .exit)) ⌝ }
 {
-    say(Word::Refused(field::number_of(e)), line)
+    let why = f.refusal;
+    say(Word::Refused(field::number_of(why)), line)
+}
+
+// The line of a refusal, with its place.
+pub fn refuse_at(f: Fault, line: &mut Line) -> usize
+    ensures { λ r. ⌜ Printed (spoken (Word.RefusedAt (numberOf (f .refusal)) (f .place))) (now (line .entry)) r (now (line .exit)) ⌝ }
+{
+    let why = f.refusal;
+    say(Word::RefusedAt(field::number_of(why), f.place), line)
 }
 
 // The fields before the lists.
@@ -162,10 +183,10 @@ fn put_head(unit: u32, tenancy: u32, q: u32, time: u32, out: &mut [u8]) -> usize
     ensures { λ r. ⌜ Adds (word-plan ++ spellAll spaced (unit ∷ tenancy ∷ q ∷ time ∷ [])) (now (out .entry)) 0 (now (out .exit)) r ⌝ }
 {
     let a = put_text(b"plan", out, 0);
-    let b = put_spaced(unit, out, a);
-    let c = put_spaced(tenancy, out, b);
-    let d = put_spaced(q, out, c);
-    put_spaced(time, out, d)
+    let b = put_spaced(unit as u64, out, a);
+    let c = put_spaced(tenancy as u64, out, b);
+    let d = put_spaced(q as u64, out, c);
+    put_spaced(time as u64, out, d)
 }
 
 // The two lists, and the end of the line.

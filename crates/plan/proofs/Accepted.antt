@@ -5,15 +5,14 @@ use mathlib.Core.List.{List}
 use Prim.Native.Nat.{ℕ}
 use native.Mathlib.Omega.{arith}
 use lib.ListN.{length}
-use Rattle.basics.proofs.Choice.{pick-true, pick-false}
-use Rattle.basics.proofs.Tests.{by-cases}
-use Rattle.field.specs.Sheet.{Out, got, refused}
+use Rattle.field.specs.Sheet.{note, Out, got, refused}
 use Rattle.plan.specs.declared.Head.{Head}
 use Rattle.plan.specs.declared.Answer.the-variants.{Accepted}
 use Rattle.plan.specs.Plan.{Plan}
 use Rattle.plan.specs.Told.{toldPlan}
-use Rattle.plan.specs.Receive.{roomFor, ifRoom, heads, disksLeft, shortLeft, Received}
+use Rattle.plan.specs.Receive.{ifRoom, heads, disksLeft, shortLeft, Received}
 use Rattle.basics.specs.Buffer.{over}
+use Rattle.plan.proofs.Room.{room-disks, room-short, room-both, room-either}
 
 -- an accepted sheet: its plan, Q, R and m, and the lists
 pub record Took (sheet : Out Plan) (bytes : ℕ) (disks short : List ℕ) (h : Head) (disks′ short′ : List ℕ) : Type 0 where
@@ -30,9 +29,13 @@ module _ (bytes : ℕ) (disks short : List ℕ) (h : Head) (disks′ short′ : 
       → Took (got p e) bytes disks short h disks′ short′
   unfolding toldPlan ifRoom heads disksLeft shortLeft
   took-got p e r =
-      by-cases (roomFor p disks short)
-      (λ t.
-      let x : ifRoom (got p e) disks short ≡ got p e = pick-true (got p e) (refused 11) t in
+      room-either p e disks short
+      (λ l. let a : got h bytes ≡ refused (note 11 (length (p .disks))) = r .answer ∙ ap heads (room-disks p e disks short l) in
+      absurd (let z : _≡_ {A = ℕ} 0 1 = cc in omega arith))
+      (λ k l. let a : got h bytes ≡ refused (note 11 (length (p .short))) = r .answer ∙ ap heads (room-short p e disks short k l) in
+      absurd (let z : _≡_ {A = ℕ} 0 1 = cc in omega arith))
+      (λ k l.
+      let x : ifRoom (got p e) disks short ≡ got p e = room-both p e disks short k l in
       let a : got h bytes ≡ heads (got p e) = r .answer ∙ ap heads x in
       record {
         plan = p;
@@ -43,10 +46,6 @@ module _ (bytes : ℕ) (disks short : List ℕ) (h : Head) (disks′ short′ : 
         disks-left = r .blocks ∙ ap (λ (o : Out Plan). disksLeft o disks) x;
         short-left = r .members ∙ ap (λ (o : Out Plan). shortLeft o short) x;
       })
-      (λ f.
-      let x : ifRoom (got p e) disks short ≡ refused 11 = pick-false (got p e) (refused 11) f in
-      let a : got h bytes ≡ refused 11 = r .answer ∙ ap heads x in
-      absurd (let z : _≡_ {A = ℕ} 0 1 = cc in omega arith))
 
   pub took : (sheet : Out Plan) → Received sheet bytes disks short (Accepted h) disks′ short′ → Took sheet bytes disks short h disks′ short′
   unfolding toldPlan ifRoom heads

@@ -1,3 +1,4 @@
+pub mod Room
 pub mod Reading
 pub mod Accepted
 pub mod Writing
@@ -5,3 +6,4 @@ pub mod Longest
 pub mod RoundTrip
 pub mod Unique
 pub mod Known
+pub mod Placed

@@ -16,15 +16,15 @@ use mathlib.Core.List.{List, [], _∷_, _++_}
 use native.Mathlib.Numerals.{add-one}
 use lib.ListN.{length, take, drop, set, length-set, take-append-drop}
 use lib.Seq.{length-take-le, take-suc-set, drop-set-lt, drop-drop}
-use Rattle.field.specs.Sheet.{Out, got, refused, Parser, andThen, _>>=_, _>>_, pure, times}
+use Rattle.field.specs.Sheet.{Note, note, Out, got, refused, Parser, andThen, _>>=_, _>>_, pure, times}
 use Rattle.field.specs.declared.Field.the-variants.{Got, Refused}
-use Rattle.field.specs.declared.Refusal.{Refusal}
-use Rattle.field.specs.Refusal.{numberOf}
+use Rattle.field.specs.declared.Fault.{Fault}
+use Rattle.field.specs.Refusal.{faultAt, noteOf}
 use Rattle.field.specs.Told.{told}
 use Rattle.field.proofs.Lists.{prefix}
 use Rattle.basics.specs.Buffer.{over}
 use Rattle.plan.specs.Parts.{ended, Holds, ReadInto, Checked, Framed}
-use Rattle.basics.proofs.Choice.{pick-elim, pick-true, pick-false}
+use Rattle.basics.proofs.Choice.{pick-elim}
 use Rattle.field.specs.Field.{opening, inside, ascending, end, whole}
 use Rattle.field.specs.declared.Field.{Field}
 use Rattle.field.proofs.Values.{times-all, ascending-rises}
@@ -32,16 +32,13 @@ use Rattle.field.proofs.Whole.{whole-as, whole-refused, whole-got}
 use Rattle.field.proofs.Sheet.{next, then, stops, halts, Step, bind-got, after-got, pure-got}
 use Rattle.plan.specs.declared.Found.{Found}
 use Rattle.plan.specs.declared.Found.the-variants.{Whole, Refused as Not}
-use mathlib.Core.Bool.{true, false}
-use borrow.Author.Tests.{le-leb, lt-leb}
-use lib.Dec.{leb}
-use Rattle.basics.proofs.Tests.{and-both, first-false, second-false}
 use Rattle.field.specs.declared.Refusal.the-variants.{NoRoom}
 use Rattle.plan.specs.declared.Frame.{Frame}
 use Rattle.plan.specs.declared.Answer.{Answer}
 use Rattle.plan.specs.declared.Answer.the-variants.{Accepted, Refused}
 use Rattle.plan.specs.Told.{toldPlan}
-use Rattle.plan.specs.Receive.{roomFor, ifRoom, heads, disksLeft, shortLeft, Received}
+use Rattle.plan.specs.Receive.{ifRoom, heads, disksLeft, shortLeft, Received}
+use Rattle.plan.proofs.Room.{room-disks, room-short, room-both}
 use Rattle.basics.specs.Limits.{blocksMost, timeMost}
 
 -- ---- a bound that is 0 for no blocks
@@ -85,9 +82,9 @@ module _ {list rest : Out (List ℕ)} {out after : List ℕ} {i : ℕ} (w : Fill
         long = length-set after i v ∙ w .long;
       }
 
-  pub filling-stop : (e : Refusal) → prefix (take i after) rest ≡ refused (numberOf e) → ReadInto list out (Refused e) after
+  pub filling-stop : (e : Fault) → prefix (take i after) rest ≡ refused (noteOf e) → ReadInto list out (Refused e) after
   unfolding told ended Holds
-  filling-stop e h = let r : list ≡ refused (numberOf e) = w .read ∙ h in record { answer = sym (ap ended r); held = rw r tt }
+  filling-stop e h = let r : list ≡ refused (noteOf e) = w .read ∙ h in record { answer = sym (ap ended r); held = rw r tt }
 
   pub filling-done : (e : ℕ) → i ≤ length after → prefix (take i after) rest ≡ got (take i after) e → ReadInto list out (Got 0 e) after
   unfolding told ended Holds over
@@ -105,7 +102,7 @@ unfolding ended
 ended-got (got xs n) v e h = (xs, cc)
 ended-got (refused n) v e h = absurd (let z : _≡_ {A = ℕ} 0 1 = cc in omega arith)
 
-pub ended-refused : (o : Out (List ℕ)) (n : ℕ) → ended o ≡ refused n → o ≡ refused n
+pub ended-refused : (o : Out (List ℕ)) (n : Note) → ended o ≡ refused n → o ≡ refused n
 unfolding ended
 ended-refused (got xs e) n h = absurd (let z : _≡_ {A = ℕ} 0 1 = cc in omega arith)
 ended-refused (refused m) n h = cc
@@ -138,7 +135,7 @@ module _ {A B : Type 0} (p : Parser A) (f : A → B) (s : List ℕ) (at : ℕ) w
   unfolding mapped
   whole-map-got h = whole-map ∙ ap (mapped f) h
 
-  pub whole-map-refused : {n : ℕ} → whole p s at ≡ refused n → whole (p >>= λ a. pure (f a)) s at ≡ refused n
+  pub whole-map-refused : {n : Note} → whole p s at ≡ refused n → whole (p >>= λ a. pure (f a)) s at ≡ refused n
   unfolding mapped
   whole-map-refused h = whole-map ∙ ap (mapped f) h
 
@@ -149,9 +146,9 @@ list-got : {f : Field} (o : Out (List ℕ)) {v e : ℕ} → told f ≡ ended o �
 unfolding told
 list-got o {v} {e} h q = ended-got o v e (sym h ∙ ap told q)
 
-list-refused : {f : Field} (o : Out (List ℕ)) {e : Refusal} → told f ≡ ended o → f ≡ Refused e → o ≡ refused (numberOf e)
+list-refused : {f : Field} (o : Out (List ℕ)) {e : Fault} → told f ≡ ended o → f ≡ Refused e → o ≡ refused (noteOf e)
 unfolding told
-list-refused o {e} h q = ended-refused o (numberOf e) (sym h ∙ ap told q)
+list-refused o {e} h q = ended-refused o (noteOf e) (sym h ∙ ap told q)
 
 -- ---- the short set's blocks, and the end of the sheet
 
@@ -168,7 +165,7 @@ module _ (m high q : ℕ) (s : List ℕ) (at : ℕ) {f : Field} (same : high ≡
       list-got (ascending m 0 (q - 1) s at) (h ∙ ap (λ (k : ℕ). ended (ascending m 0 k s at)) same) g in
       end-tail (w .0) s e ∙ ap ended (sym (next (ascending m 0 (q - 1)) _ s at (w .1)))
 
-  pub last-stop : {e : Refusal} → f ≡ Refused e → refused (numberOf e) ≡ ended (whole (ascending m 0 (q - 1)) s at)
+  pub last-stop : {e : Fault} → f ≡ Refused e → refused (noteOf e) ≡ ended (whole (ascending m 0 (q - 1)) s at)
   unfolding ended
   last-stop {e} g = sym
       (ap ended (whole-refused (ascending m 0 (q - 1)) s at
@@ -177,12 +174,12 @@ module _ (m high q : ℕ) (s : List ℕ) (at : ℕ) {f : Field} (same : high ≡
 -- ---- the lists
 
 module _ (q r : ℕ) (s : List ℕ) (at : ℕ) {d : Field} (h : told d ≡ ended (times q disk s at)) where
-  pub lists-disks : {e : Refusal} → d ≡ Refused e → whole (listsOf q r) s at ≡ refused (numberOf e)
+  pub lists-disks : {e : Fault} → d ≡ Refused e → whole (listsOf q r) s at ≡ refused (noteOf e)
   unfolding listsOf
   lists-disks g = whole-refused (listsOf q r) s at (stops (times q disk) _ s at (list-refused (times q disk s at) h g))
 
   module _ {v p : ℕ} (g : d ≡ Got v p) where
-    pub lists-size : {n : ℕ} → sizeOf q s p ≡ refused n → whole (listsOf q r) s at ≡ refused n
+    pub lists-size : {n : Note} → sizeOf q s p ≡ refused n → whole (listsOf q r) s at ≡ refused n
     unfolding listsOf
     lists-size z =
         let w : (ds : List ℕ) × (times q disk s at ≡ got ds p) = list-got (times q disk s at) h g in
@@ -196,7 +193,7 @@ module _ (q r : ℕ) (s : List ℕ) (at : ℕ) {d : Field} (h : told d ≡ ended
       unfolding listsOf rest
       before ds w = whole-as (listsOf q r) s at (rest ds) next-at (next (times q disk) _ s at w ∙ next (sizeOf q) _ s p z)
 
-      pub lists-short : {n : ℕ} → ended (whole (ascending m 0 (q - 1)) s next-at) ≡ refused n → whole (listsOf q r) s at ≡ refused n
+      pub lists-short : {n : Note} → ended (whole (ascending m 0 (q - 1)) s next-at) ≡ refused n → whole (listsOf q r) s at ≡ refused n
       unfolding rest
       lists-short {n} x =
           let w : (ds : List ℕ) × (times q disk s at ≡ got ds p) = list-got (times q disk s at) h g in
@@ -235,27 +232,27 @@ module _ (q r : ℕ) (s : List ℕ) (at : ℕ) {d : Field} (h : told d ≡ ended
 
 -- the bounds of R and of m, as they were found
 pub bounds-time : (q low high : ℕ) (s : List ℕ) (at : ℕ) {o : Out ℕ} → low ≡ ifAny q 1 → high ≡ ifAny q timeMost
-    → inside low high 6 s at ≡ o → timeOf q s at ≡ o
+    → inside low high 15 s at ≡ o → timeOf q s at ≡ o
 unfolding timeOf
-bounds-time q low high s at l h e = sym (ap (λ (k : ℕ). inside k (ifAny q timeMost) 6 s at) l)
-    ∙ sym (ap (λ (k : ℕ). inside low k 6 s at) h) ∙ e
+bounds-time q low high s at l h e = sym (ap (λ (k : ℕ). inside k (ifAny q timeMost) 15 s at) l)
+    ∙ sym (ap (λ (k : ℕ). inside low k 15 s at) h) ∙ e
 
 pub bounds-size : (q low : ℕ) (s : List ℕ) (at : ℕ) {o : Out ℕ} → low ≡ ifAny q 1 → inside low q 6 s at ≡ o → sizeOf q s at ≡ o
 unfolding sizeOf
 bounds-size q low s at l e = sym (ap (λ (k : ℕ). inside k q 6 s at) l) ∙ e
 
 module _ (unit t : ℕ) (s : List ℕ) where
-  pub check-opening : {n : ℕ} → opening (3 ∷ []) unit t s 0 ≡ refused n → planSheet unit t s 0 ≡ refused n
+  pub check-opening : {n : Note} → opening (3 ∷ []) unit t s 0 ≡ refused n → planSheet unit t s 0 ≡ refused n
   unfolding planSheet planFields
   check-opening h = whole-refused (planFields unit t) s 0 (halts (opening (3 ∷ []) unit t) _ s 0 h)
 
   module _ {v a : ℕ} (h : opening (3 ∷ []) unit t s 0 ≡ got v a) where
-    pub check-blocks : {n : ℕ} → inside 0 blocksMost 6 s a ≡ refused n → planSheet unit t s 0 ≡ refused n
+    pub check-blocks : {n : Note} → inside 0 blocksMost 6 s a ≡ refused n → planSheet unit t s 0 ≡ refused n
     unfolding planSheet planFields
     check-blocks g = whole-refused (planFields unit t) s 0 (then (opening (3 ∷ []) unit t) _ s 0 h ∙ stops (inside 0 blocksMost 6) _ s a g)
 
     module _ {q b : ℕ} (g : inside 0 blocksMost 6 s a ≡ got q b) where
-      pub check-time : {n : ℕ} → timeOf q s b ≡ refused n → planSheet unit t s 0 ≡ refused n
+      pub check-time : {n : Note} → timeOf q s b ≡ refused n → planSheet unit t s 0 ≡ refused n
       unfolding planSheet planFields
       check-time k = whole-refused (planFields unit t) s 0 (then (opening (3 ∷ []) unit t) _ s 0 h ∙ next (inside 0 blocksMost 6) _ s a g
           ∙ stops (timeOf q) _ s b k)
@@ -272,17 +269,17 @@ module _ (unit t : ℕ) (s : List ℕ) where
 -- ---- the ways in which reading ends
 
 -- the sheet is refused
-pub received-refused : (sheet : Out Plan) (bytes : ℕ) (disks short : List ℕ) (e : Refusal) → sheet ≡ refused (numberOf e)
+pub received-refused : (sheet : Out Plan) (bytes : ℕ) (disks short : List ℕ) (e : Fault) → sheet ≡ refused (noteOf e)
     → Received sheet bytes disks short (Refused e) disks short
 unfolding toldPlan ifRoom heads disksLeft shortLeft
 received-refused sheet bytes disks short e h = rw h (record { answer = refl; blocks = refl; members = refl })
 
 module _ (p : Plan) (e : ℕ) (disks short : List ℕ) where
   -- a list is too short
-  no-room : roomFor p disks short ≡ false → Received (got p e) e disks short (Refused NoRoom) disks short
-  unfolding toldPlan ifRoom heads disksLeft shortLeft
-  no-room h =
-      let x : ifRoom (got p e) disks short ≡ refused 11 = pick-false (got p e) (refused 11) h in
+  no-room : {n : ℕ} → ifRoom (got p e) disks short ≡ refused (note 11 n)
+      → Received (got p e) e disks short (Refused (faultAt NoRoom n)) disks short
+  unfolding toldPlan heads disksLeft shortLeft
+  no-room x =
       record {
         answer = sym (ap heads x);
         blocks = sym (ap (λ (o : Out Plan). disksLeft o disks) x);
@@ -291,25 +288,23 @@ module _ (p : Plan) (e : ℕ) (disks short : List ℕ) where
       }
 
   module _ {s : List ℕ} {f : Frame} (w : Framed s p f) where
-    pub few-disks : length disks < f .blocks → Received (got p e) e disks short (Refused NoRoom) disks short
-    unfolding roomFor
-    few-disks l = no-room (first-false _ (lt-leb (length (p .disks)) (length disks) (omega (arith, w .blocks))))
+    pub few-disks : length disks < f .blocks → Received (got p e) e disks short (Refused (faultAt NoRoom (f .blocks))) disks short
+    few-disks l =
+        no-room (room-disks p e disks short (omega (arith, w .blocks)) ∙ ap (λ (n : ℕ). refused (note 11 n)) (w .blocks))
 
-    pub few-members : length short < f .size → Received (got p e) e disks short (Refused NoRoom) disks short
-    unfolding roomFor
-    few-members l = no-room
-        (second-false (leb (length (p .disks)) (length disks)) (lt-leb (length (p .short)) (length short) (omega (arith, w .size))))
+    pub few-members : f .blocks ≤ length disks → length short < f .size
+        → Received (got p e) e disks short (Refused (faultAt NoRoom (f .size))) disks short
+    few-members k l = no-room
+        (room-short p e disks short (omega (arith, w .blocks)) (omega (arith, w .size)) ∙ ap (λ (n : ℕ). refused (note 11 n)) (w .size))
 
     -- both lists were filled
     pub received : {disks′ short′ : List ℕ} (high : ℕ) → high ≡ f .blocks - 1 → f .blocks ≤ length disks → f .size ≤ length short
         → Holds (times (f .blocks) disk s (f .disks)) disks disks′ → Holds (ascending (f .size) 0 high s (f .short)) short short′
         → Received (got p e) e disks short (Accepted (record { blocks = f .blocks; time = f .time; size = f .size })) disks′ short′
-    unfolding roomFor toldPlan ifRoom heads disksLeft shortLeft Holds
+    unfolding toldPlan heads disksLeft shortLeft Holds
     received {disks′} {short′} high top k l a b =
-        let room : roomFor p disks short
-        ≡ true = and-both _ _ (le-leb (length (p .disks)) (length disks) (omega (arith, w .blocks)))
-        (le-leb (length (p .short)) (length short) (omega (arith, w .size))) in
-        let x : ifRoom (got p e) disks short ≡ got p e = pick-true (got p e) (refused 11) room in
+        let x : ifRoom (got p e) disks short ≡ got p e =
+        room-both p e disks short (omega (arith, w .blocks)) (omega (arith, w .size)) in
         let ds : disks′ ≡ over (p .disks) disks = rw (w .disks) at a in
         let bs : short′ ≡ over (p .short) short = rw (w .short) at (rw top at b) in
         record {
@@ -326,7 +321,7 @@ module _ (s : List ℕ) (sheet : Out Plan) (x : Found) (c : Checked s sheet x) w
   unfolding Checked
   found-few f h = let w : Checked s sheet (Whole f) = subst (λ (y : Found). Checked s sheet y) h c in w .3 .few
 
-  pub found-refused : (bytes : ℕ) (disks short : List ℕ) (e : Refusal) → x ≡ Not e
+  pub found-refused : (bytes : ℕ) (disks short : List ℕ) (e : Fault) → x ≡ Not e
       → Received sheet bytes disks short (Refused e) disks short
   unfolding Checked
   found-refused bytes disks short e h =

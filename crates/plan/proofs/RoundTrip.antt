@@ -59,7 +59,7 @@ module _ (unit t : ℕ) (p : Plan) where
     unfolding listsOf listsBytes sizeOf
     reads-lists =
         reads-bind _ (reads-times disk encode (λ d. d ≤ disksMost - 1)
-        (λ d k. reads-between 0 (disksMost - 1) 6 6 d (omega arith) k (omega arith)) (p .disks) (r .disks))
+        (λ d k. reads-between 0 (disksMost - 1) 16 16 d (omega arith) k (omega arith)) (p .disks) (r .disks))
         (reads-bind _ (reads-between (ifAny (length (p .disks)) 1) (length (p .disks)) 6 6 (length (p .short)) (r .size-from) (r .size-to)
         (omega (arith, r .few, r .size-to)))
         (reads-checked _ (reads-ascending (length (p .disks) - 1) (omega (arith, r .few)) 0 (p .short) (r .blocks)) (reads-pure p)))
@@ -69,7 +69,7 @@ module _ (unit t : ℕ) (p : Plan) where
     reads-plan =
         reads-then (reads-opening unit t u l h (3 ∷ []) 3 (one-listed 3) (omega arith))
         (reads-bind _ (reads-between 0 blocksMost 6 6 (length (p .disks)) (omega arith) (r .few) (omega (arith, r .few)))
-        (reads-bind _ (reads-between (ifAny (length (p .disks)) 1) (ifAny (length (p .disks)) timeMost) 6 6 (p .time) (r .time-from)
+        (reads-bind _ (reads-between (ifAny (length (p .disks)) 1) (ifAny (length (p .disks)) timeMost) 15 15 (p .time) (r .time-from)
         (r .time-to) (omega (arith, r .time-to, any-most (length (p .disks)) timeMost)))
         reads-lists))
 
@@ -99,7 +99,7 @@ module _ (s : List ℕ) (b : Bytes s) where
       let x : Spelt s at (w .mid) (spellAll encode ds) × (length ds ≡ q)
       × All (λ d. d ≤ disksMost - 1) ds =
       times-spelt disk encode (λ d. d ≤ disksMost - 1) s
-      (λ i d n k. (between-spelt s b i 0 (disksMost - 1) 6 6 k .0, between-spelt s b i 0 (disksMost - 1) 6 6 k .2)) q at ds
+      (λ i d n k. (between-spelt s b i 0 (disksMost - 1) 16 16 k .0, between-spelt s b i 0 (disksMost - 1) 16 16 k .2)) q at ds
       (w .mid) l (w .first) in
       let z : Step (sizeOf q s (w .mid)) (λ m n. (ascending m 0 (q - 1) >>= λ bs. pure (planOf r ds bs)) s n) p e =
       bind-got (sizeOf q) s (w .mid) p e _ (w .last) in
@@ -150,7 +150,7 @@ module _ (s : List ℕ) (b : Bytes s) where
       bind-got (timeOf (q .found)) s (q .mid) p e _ (q .last) in
       let r′ : Spelt s (q .mid) (r .mid) (encode (r .found)) × (ifAny (q .found) 1 ≤ r .found)
       × (r .found ≤ ifAny (q .found) timeMost) =
-      between-spelt s b (q .mid) (ifAny (q .found) 1) (ifAny (q .found) timeMost) 6 6 (r .first) in
+      between-spelt s b (q .mid) (ifAny (q .found) 1) (ifAny (q .found) timeMost) 15 15 (r .first) in
       let x : Lists (q .found) (r .found) (r .mid) p e = lists-spelt (q .found) (r .found) (r .mid) p e (r′ .0 .within) (r .last) in
       let a : Spelt s (o .mid) (q .mid) (encode (length (p .disks))) =
       subst (λ (k : ℕ). Spelt s (o .mid) (q .mid) (encode k)) (sym (x .blocks)) (q′ .0) in

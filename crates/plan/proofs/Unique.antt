@@ -4,9 +4,9 @@ use mathlib.Core.List.{List}
 use Prim.Native.Nat.{ℕ}
 use Rattle.field.specs.Sheet.{Out}
 use Rattle.field.specs.declared.Written.{Written}
-use Rattle.field.specs.Refusal.{numberOf}
+use Rattle.field.specs.Refusal.{noteOf}
 use Rattle.field.specs.Send.{Sent}
-use Rattle.field.proofs.Unique.{number-injective}
+use Rattle.field.proofs.Unique.{note-injective}
 use Rattle.field.proofs.Sends.{sent-unique}
 use Rattle.plan.specs.declared.Answer.{Answer}
 use Rattle.plan.specs.declared.Answer.the-variants.{Accepted, Refused}
@@ -21,7 +21,7 @@ unfolding toldPlan
 told-injective bytes (Accepted h) (Accepted k) e = cc
 told-injective bytes (Accepted h) (Refused q) e = cc
 told-injective bytes (Refused r) (Accepted k) e = cc
-told-injective bytes (Refused r) (Refused q) e = let n : numberOf r ≡ numberOf q = cc in ap Refused (number-injective r q n)
+told-injective bytes (Refused r) (Refused q) e = let n : noteOf r ≡ noteOf q = cc in ap Refused (note-injective r q n)
 
 -- `read`: the answer and both lists
 pub read-unique : (sheet : Out Plan) (bytes : ℕ) (disks short : List ℕ) (a b : Answer) (d e m n : List ℕ)

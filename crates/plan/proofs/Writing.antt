@@ -24,7 +24,8 @@ use Rattle.basics.proofs.Choice.{pick-true, pick-false}
 use Rattle.basics.proofs.Tests.{and-both, first-false, second-false}
 use Rattle.field.specs.declared.Written.the-variants.{Length, Refused}
 use Rattle.field.specs.declared.Refusal.the-variants.{OutOfRange, NoRoom}
-use Rattle.field.specs.Refusal.{numberOf}
+use Rattle.field.specs.Refusal.{faultAt, noteOf}
+use Rattle.field.specs.Sheet.{note, unplaced}
 use Rattle.field.specs.Send.{Draft, sheet, none, Sent}
 use Rattle.field.proofs.Puts.{front-room, put-behind, laid-length, laid-join, put-one, spell-room}
 use Rattle.field.proofs.Opened.{opening-length}
@@ -32,7 +33,7 @@ use Rattle.field.proofs.Sends.{sent-refused, sent-long, sent-fits, sent-bytes, 
 use Rattle.plan.specs.Plan.{Plan}
 use Rattle.plan.specs.Draft.{planNumbers, planBytes, counted, planDraft}
 use Rattle.plan.specs.Parts.{headingBytes}
-use Rattle.field.specs.declared.Refusal.{Refusal}
+use Rattle.field.specs.declared.Fault.{Fault}
 use Rattle.field.specs.declared.Written.{Written}
 use Rattle.plan.specs.Range.{InRange}
 use Rattle.basics.specs.Limits.{blocksMost}
@@ -124,26 +125,28 @@ module _ (unit t : ℕ) (p : Plan) where
   -- the sheet is there
   pub draft : length (p .disks) ≤ blocksMost → length (p .short) ≤ blocksMost → planDraft unit t p ≡ sheet (planBytes unit t p)
   unfolding planDraft counted
-  draft k l = pick-true (sheet (planBytes unit t p)) (none 6) (and-both _ _ (le-leb _ _ k) (le-leb _ _ l))
+  draft k l = pick-true (sheet (planBytes unit t p)) (none (unplaced 6)) (and-both _ _ (le-leb _ _ k) (le-leb _ _ l))
 
   module _ (out : List ℕ) where
-    none-sent : counted p ≡ false → Sent (planDraft unit t p) out (Refused OutOfRange) out
+    none-sent : counted p ≡ false → Sent (planDraft unit t p) out (Refused (faultAt OutOfRange 0)) out
     unfolding planDraft
-    none-sent h = subst (λ (d : Draft). Sent d out (Refused OutOfRange) out) (sym (pick-false (sheet (planBytes unit t p)) (none 6) h))
-        (sent-refused OutOfRange out)
+    none-sent h = subst (λ (d : Draft). Sent d out (Refused (faultAt OutOfRange 0)) out)
+        (sym (pick-false (sheet (planBytes unit t p)) (none (unplaced 6)) h)) (sent-refused (faultAt OutOfRange 0) out)
 
     -- too many blocks, or too large a short set
-    pub many-disks : blocksMost < length (p .disks) → Sent (planDraft unit t p) out (Refused OutOfRange) out
+    pub many-disks : blocksMost < length (p .disks) → Sent (planDraft unit t p) out (Refused (faultAt OutOfRange 0)) out
     unfolding counted
     many-disks h = none-sent (first-false _ (lt-leb _ _ h))
 
-    pub many-members : blocksMost < length (p .short) → Sent (planDraft unit t p) out (Refused OutOfRange) out
+    pub many-members : blocksMost < length (p .short) → Sent (planDraft unit t p) out (Refused (faultAt OutOfRange 0)) out
     unfolding counted
     many-members h = none-sent (second-false (leb (length (p .disks)) blocksMost) (lt-leb _ _ h))
 
     module _ (k : length (p .disks) ≤ blocksMost) (l : length (p .short) ≤ blocksMost) where
-      pub long-sent : length out < length (planBytes unit t p) → Sent (planDraft unit t p) out (Refused NoRoom) out
-      long-sent h = subst (λ (d : Draft). Sent d out (Refused NoRoom) out) (sym (draft k l)) (sent-long (planBytes unit t p) out h)
+      pub long-sent : {n : ℕ} → n ≡ length (planBytes unit t p) → length out < n
+          → Sent (planDraft unit t p) out (Refused (faultAt NoRoom n)) out
+      long-sent {n} e h =
+          subst (λ (d : Draft). Sent d out (Refused (faultAt NoRoom n)) out) (sym (draft k l)) (sent-long (planBytes unit t p) out e h)
 
 -- ---- part after part
 
@@ -201,6 +204,6 @@ module _ (unit t : ℕ) (p : Plan) (r : InRange p) where
         × (take n after ≡ planBytes unit t p) × (n ≤ length out)
     sent-all n after w = sent-bytes (planBytes unit t p) out n after (sheet-of (Length n) after w)
 
-    pub sent-none : (e : Refusal) (after : List ℕ) → Sent (planDraft unit t p) out (Refused e) after
-        → (length out < length (planBytes unit t p)) × (numberOf e ≡ 11)
+    pub sent-none : (e : Fault) (after : List ℕ) → Sent (planDraft unit t p) out (Refused e) after
+        → (length out < length (planBytes unit t p)) × (noteOf e ≡ note 11 (length (planBytes unit t p)))
     sent-none e after w = sent-not (planBytes unit t p) out e after (sheet-of (Refused e) after w)

@@ -9,6 +9,7 @@ use Rattle.basics.specs.Choice.{pick}
 use Rattle.number.specs.Encode.{encode}
 use Rattle.field.specs.Put.{spellAll}
 use Rattle.field.specs.Send.{Draft, sheet, none}
+use Rattle.field.specs.Sheet.{unplaced}
 use Rattle.plan.specs.Plan.{Plan}
 
 -- kind 3, unit, tenancy, Q, R, a disk number for each block, short set size m, m block numbers
@@ -26,4 +27,4 @@ counted p = leb (length (p .disks)) blocksMost && leb (length (p .short)) blocks
 
 -- the sheet of whatever values are given; 6 where Q or m is above 1,024
 unfoldable pub planDraft : ℕ → ℕ → Plan → Draft
-planDraft unit t p = pick (counted p) (sheet (planBytes unit t p)) (none 6)
+planDraft unit t p = pick (counted p) (sheet (planBytes unit t p)) (none (unplaced 6))

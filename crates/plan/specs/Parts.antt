@@ -16,7 +16,7 @@ use Rattle.field.specs.declared.Field.{Field}
 use Rattle.field.specs.Sheet.{Out, got, refused, times}
 use Rattle.field.specs.Field.{ascending}
 use Rattle.field.specs.Told.{told}
-use Rattle.field.specs.Refusal.{numberOf}
+use Rattle.field.specs.Refusal.{noteOf}
 use Rattle.plan.specs.declared.Frame.{Frame}
 use Rattle.plan.specs.declared.Found.{Found}
 use Rattle.plan.specs.declared.Found.the-variants.{Whole, Refused}
@@ -51,7 +51,7 @@ pub record Framed (s : List ℕ) (p : Plan) (f : Frame) : Type 0 where
 -- the plan that a sheet says and its frame, or why the sheet is refused
 unfoldable pub Checked : List ℕ → Out Plan → Found → Type 0
 Checked s sheet (Whole f) = (p : Plan) × (e : ℕ) × (sheet ≡ got p e) × Framed s p f
-Checked s sheet (Refused e) = sheet ≡ refused (numberOf e)
+Checked s sheet (Refused e) = sheet ≡ refused (noteOf e)
 
 -- the bytes of the fields before the disks
 unfoldable pub headingBytes : ℕ → ℕ → ℕ → ℕ → List ℕ

@@ -22,7 +22,7 @@ planOf r ds bs = record { time = r; disks = ds; short = bs }
 
 -- a disk's number; the sheet does not say N
 abbrev pub disk : Parser ℕ
-disk = inside 0 (disksMost - 1) 6
+disk = inside 0 (disksMost - 1) 16
 
 -- a bound for at least one block; for no blocks it is 0
 unfoldable pub ifAny : ℕ → ℕ → ℕ
@@ -31,7 +31,7 @@ ifAny (suc q) n = n
 
 -- R is 1 to 1,125,000,000, and 0 exactly for Q = 0
 unfoldable pub timeOf : ℕ → Parser ℕ
-timeOf q = inside (ifAny q 1) (ifAny q timeMost) 6
+timeOf q = inside (ifAny q 1) (ifAny q timeMost) 15
 
 -- m is 1 to Q, and 0 exactly for Q = 0
 unfoldable pub sizeOf : ℕ → Parser ℕ

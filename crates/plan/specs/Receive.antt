@@ -4,26 +4,24 @@
 --     disksLeft, shortLeft     the lent lists afterwards
 --     Received      the three together
 use Prim.Native.Nat.{ℕ}
-use mathlib.Core.Bool.{Bool, _&&_}
 use mathlib.Core.Path.{_≡_}
 use mathlib.Core.List.{List}
 use lib.ListN.{length}
 use lib.Dec.{leb}
 use Rattle.basics.specs.Choice.{pick}
 use Rattle.basics.specs.Buffer.{over}
-use Rattle.field.specs.Sheet.{Out, got, refused}
+use Rattle.field.specs.Sheet.{Out, got, refused, note}
 use Rattle.plan.specs.declared.Head.{Head}
 use Rattle.plan.specs.declared.Answer.{Answer}
 use Rattle.plan.specs.Plan.{Plan}
 use Rattle.plan.specs.Told.{toldPlan}
 
--- whether both lists have room for a plan
-unfoldable pub roomFor : Plan → List ℕ → List ℕ → Bool
-roomFor p disks short = leb (length (p .disks)) (length disks) && leb (length (p .short)) (length short)
-
--- an accepted sheet is refused with 11 where either list is too short
+-- an accepted sheet is refused with 11 where a list is too short, the disks first; that tells the entries needed
 unfoldable pub ifRoom : Out Plan → List ℕ → List ℕ → Out Plan
-ifRoom (got p e) disks short = pick (roomFor p disks short) (got p e) (refused 11)
+ifRoom (got p e) disks short =
+    pick (leb (length (p .disks)) (length disks))
+    (pick (leb (length (p .short)) (length short)) (got p e) (refused (note 11 (length (p .short)))))
+    (refused (note 11 (length (p .disks))))
 ifRoom (refused n) disks short = refused n
 
 -- Q, R and m

@@ -2,6 +2,7 @@
 use basics::BLOCKS;
 use basics::DISKS;
 use basics::TIME_MOST;
+use field::Fault;
 use field::Field;
 use field::Refusal;
 use field::Written;
@@ -33,7 +34,7 @@ pub struct Head {
 // What reading a plan sheet answers.
 pub enum Answer {
     Accepted(Head),
-    Refused(Refusal),
+    Refused(Fault),
 }
 
 // A plan sheet that was read to its end: its counts and time, and where its lists begin.
@@ -48,7 +49,7 @@ struct Frame {
 // What reading a sheet to its end finds.
 enum Found {
     Whole(Frame),
-    Refused(Refusal),
+    Refused(Fault),
 }
 
 // The number for at least one block; for none it is 0.
@@ -74,7 +75,7 @@ fn read_disks(s: &[u8], at: usize, q: u32, out: &mut [u8]) -> Field
     let mut p = at;
     let mut i: usize = 0;
     while i < n {
-        match field::inside(s, p, 0, DISKS as u32 - 1, Refusal::OutOfRange) {
+        match field::inside(s, p, 0, DISKS as u32 - 1, Refusal::BadIndex) {
             Field::Got(v, next) => {
                 out[i] = v as u8;
                 p = next;
@@ -164,7 +165,7 @@ fn check(s: &[u8], unit: u32, tenancy: u32) -> Found
                 p,
                 if_any(q, 1),
                 if_any(q, TIME_MOST),
-                Refusal::OutOfRange,
+                Refusal::BadAmount,
             ) {
                 Field::Got(r, next) => lists(s, next, q, r),
                 Field::Refused(e) => Found::Refused(e),
@@ -186,10 +187,16 @@ fn fill(s: &[u8], f: Frame, disks: &mut [u8], short: &mut [u16]) -> Answer
     let from = f.disks;
     let at = f.short;
     if disks.len() < q as usize {
-        return Answer::Refused(Refusal::NoRoom);
+        return Answer::Refused(Fault {
+            refusal: Refusal::NoRoom,
+            place: q as usize,
+        });
     }
     if short.len() < m as usize {
-        return Answer::Refused(Refusal::NoRoom);
+        return Answer::Refused(Fault {
+            refusal: Refusal::NoRoom,
+            place: m as usize,
+        });
     }
     // Both lists were read once already, so neither is refused here.
     read_disks(s, from, q, disks);
@@ -307,13 +314,23 @@ pub fn write(
         (now (out .entry)) r (now (out .exit)) ⌝ }
 {
     if BLOCKS < disks.len() {
-        return Written::Refused(Refusal::OutOfRange);
+        return Written::Refused(Fault {
+            refusal: Refusal::OutOfRange,
+            place: 0,
+        });
     }
     if BLOCKS < short.len() {
-        return Written::Refused(Refusal::OutOfRange);
+        return Written::Refused(Fault {
+            refusal: Refusal::OutOfRange,
+            place: 0,
+        });
     }
-    if out.len() < sheet_width(unit, tenancy, time, disks, short) {
-        return Written::Refused(Refusal::NoRoom);
+    let length = sheet_width(unit, tenancy, time, disks, short);
+    if out.len() < length {
+        return Written::Refused(Fault {
+            refusal: Refusal::NoRoom,
+            place: length,
+        });
     }
     let a = put_heading(unit, tenancy, disks.len() as u32, time, out);
     let b = put_disks(disks, out, a);

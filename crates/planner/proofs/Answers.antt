@@ -6,11 +6,11 @@ use mathlib.Core.List.{List}
 use Prim.Native.Nat.{ℕ, _≤_, _<_}
 use native.Mathlib.Omega.{arith}
 use lib.ListN.{length, take}
-use Rattle.field.specs.declared.Refusal.{Refusal}
+use Rattle.field.specs.declared.Fault.{Fault}
 use Rattle.field.specs.declared.Written.the-variants.{Length, Refused}
-use Rattle.field.specs.Refusal.{numberOf}
+use Rattle.field.specs.Refusal.{noteOf}
 use Rattle.field.specs.Send.{toldWritten, answerTo, Sent}
-use Rattle.field.specs.Sheet.{Out, got, refused}
+use Rattle.field.specs.Sheet.{Note, note, Out, got, refused}
 use Rattle.model.specs.Case.{Case}
 use Rattle.plan.specs.Draft.{planBytes}
 use Rattle.plan.specs.Plan.{Plan}
@@ -34,9 +34,10 @@ pub record Sheeted (number tenancy : ℕ) (o : Out Case) (out : List ℕ) (n : �
   pub bytes : take n after ≡ planBytes number tenancy plan
   pub within : n ≤ length out
 
-pub data Unsent (number tenancy : ℕ) (o : Out Case) (out : List ℕ) (e : Refusal) : Type 0 where
-  denied : Plans o (refused (numberOf e)) → Unsent number tenancy o out e
-  longer : (p : Plan) (i : ℕ) → Plans o (got p i) → length out < length (planBytes number tenancy p) → numberOf e ≡ 11
+pub data Unsent (number tenancy : ℕ) (o : Out Case) (out : List ℕ) (e : Fault) : Type 0 where
+  denied : Plans o (refused (noteOf e)) → Unsent number tenancy o out e
+  longer : (p : Plan) (i : ℕ) → Plans o (got p i) → length out < length (planBytes number tenancy p)
+      → noteOf e ≡ note 11 (length (planBytes number tenancy p))
       → Unsent number tenancy o out e
 
 module _ {number tenancy : ℕ} {o : Out Case} {out after : List ℕ} where
@@ -52,13 +53,13 @@ module _ {number tenancy : ℕ} {o : Out Case} {out after : List ℕ} where
   pub answered-sheet : {n : ℕ} → Answered number tenancy o out (Length n) after → Sheeted number tenancy o out n after
   answered-sheet a = sheet-of (a .plan) (a .plans) (a .sent)
 
-  none-of : {e : Refusal} (x : Out Plan) → Plans o x → Sent (draftOf number tenancy x) out (Refused e) after → Unsent number tenancy o out e
+  none-of : {e : Fault} (x : Out Plan) → Plans o x → Sent (draftOf number tenancy x) out (Refused e) after → Unsent number tenancy o out e
   unfolding draftOf toldWritten answerTo
   none-of {e} (refused m) w s =
-      let k : refused (numberOf e) ≡ refused m = s .answer in
-      let i : m ≡ numberOf e = cc in
-      denied (subst (λ (j : ℕ). Plans o (refused j)) i w)
+      let k : refused (noteOf e) ≡ refused m = s .answer in
+      let i : m ≡ noteOf e = cc in
+      denied (subst (λ (j : Note). Plans o (refused j)) i w)
   none-of {e} (got p i) w s = let k = sent-none number tenancy p (plans-range o p i w) out e after s in longer p i w (k .0) (k .1)
 
-  pub answered-none : {e : Refusal} → Answered number tenancy o out (Refused e) after → Unsent number tenancy o out e
+  pub answered-none : {e : Fault} → Answered number tenancy o out (Refused e) after → Unsent number tenancy o out e
   answered-none a = none-of (a .plan) (a .plans) (a .sent)

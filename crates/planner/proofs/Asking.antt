@@ -11,10 +11,10 @@ use Rattle.basics.specs.Limits.{disksMost, blocksMost}
 use Rattle.basics.specs.Padded.{padTo}
 use Rattle.basics.proofs.Padded.{pad-within, pad-front, pad-whole}
 use Rattle.model.specs.Case.{Case}
-use Rattle.field.specs.declared.Refusal.{Refusal}
+use Rattle.field.specs.declared.Fault.{Fault}
 use Rattle.field.specs.declared.Written.{Written}
 use Rattle.field.specs.declared.Written.the-variants.{Refused as NotWritten}
-use Rattle.field.specs.Refusal.{numberOf}
+use Rattle.field.specs.Refusal.{noteOf}
 use Rattle.field.specs.Sheet.{Out, got, refused}
 use Rattle.field.proofs.Sends.{sent-refused}
 use Rattle.settings.specs.declared.Table.{Table}
@@ -62,7 +62,7 @@ module _ (number tenancy : ℕ) {t : Table} (w : Proper t) (s : List ℕ) {r : R
         };
       })
 
-  pub asks-refused : {e : Refusal} → r .answer ≡ Refused e
+  pub asks-refused : {e : Fault} → r .answer ≡ Refused e
       → Asks (asked number tenancy t s) (length s) (record {
         answer = Refused e;
         disks = 0;
@@ -72,7 +72,7 @@ module _ (number tenancy : ℕ) {t : Table} (w : Proper t) (s : List ℕ) {r : R
       })
   unfolding asked caseIn toldAnswer sized caseOr padTo copiesOf
   asks-refused {e} h =
-      let k : requestSheet number tenancy (t .disks) s 0 ≡ refused (numberOf e) = refused-sheet (length s) _ r e a h in
+      let k : requestSheet number tenancy (t .disks) s 0 ≡ refused (noteOf e) = refused-sheet (length s) _ r e a h in
       let z : List ℕ = replicate disksMost 0 in
       let x : Spelling = record { answer = Refused e; disks = 0; copies = r .copies; costs = z; starts = z } in
       subst (λ (o : Out Case). Asks o (length s) x) (sym (ap (caseIn t) k)) (record {
@@ -143,15 +143,15 @@ unfolding Plans draftOf
 answered-plan {o = o} {bytes = bytes} {r = r} {q = q} a h w =
     record { plan = got (w .plan) bytes; plans = rw (cut-of r q o a h .case) (w .plan, w .is, refl); sent = w .sent }
 
-refused-of : (o : Out Case) {bytes : ℕ} (r : Spelling) {e : Refusal} → Asks o bytes r → r .answer ≡ Refused e → o ≡ refused (numberOf e)
+refused-of : (o : Out Case) {bytes : ℕ} (r : Spelling) {e : Fault} → Asks o bytes r → r .answer ≡ Refused e → o ≡ refused (noteOf e)
 unfolding toldAnswer sized
 refused-of (got m i) {bytes} r {e} a h =
-    let k : refused (numberOf e) ≡ got (m .blocks) i = sym (ap (toldAnswer bytes) h) ∙ a .answer in
+    let k : refused (noteOf e) ≡ got (m .blocks) i = sym (ap (toldAnswer bytes) h) ∙ a .answer in
     absurd (let z : _≡_ {A = ℕ} 0 1 = cc in omega arith)
-refused-of (refused n) {bytes} r {e} a h = let k : refused (numberOf e) ≡ refused n = sym (ap (toldAnswer bytes) h) ∙ a .answer in cc
+refused-of (refused n) {bytes} r {e} a h = let k : refused (noteOf e) ≡ refused n = sym (ap (toldAnswer bytes) h) ∙ a .answer in cc
 
-pub answered-not : {number tenancy : ℕ} {o : Out Case} {bytes : ℕ} {r : Spelling} {e : Refusal} (out : List ℕ) → Asks o bytes r
+pub answered-not : {number tenancy : ℕ} {o : Out Case} {bytes : ℕ} {r : Spelling} {e : Fault} (out : List ℕ) → Asks o bytes r
     → r .answer ≡ Refused e → Answered number tenancy o out (NotWritten e) out
 unfolding Plans draftOf
 answered-not {o = o} {r = r} {e = e} out a h =
-    record { plan = refused (numberOf e); plans = rw (refused-of o r a h) refl; sent = sent-refused e out }
+    record { plan = refused (noteOf e); plans = rw (refused-of o r a h) refl; sent = sent-refused e out }

@@ -8,3 +8,4 @@ pub mod Demand
 pub mod Answers
 pub mod ReadBack
 pub mod Unique
+pub mod Enough

@@ -10,7 +10,6 @@ use borrow.Author.Tests.{le-leb}
 use lib.ListN.{length, take}
 use Rattle.basics.specs.Limits.{blocksMost}
 use Rattle.basics.proofs.Choice.{pick-true}
-use Rattle.basics.proofs.Tests.{and-both}
 use Rattle.field.specs.declared.Written.the-variants.{Length}
 use Rattle.field.specs.Sheet.{Out, got}
 use Rattle.field.proofs.Opened.{opening-tenancy}
@@ -24,7 +23,7 @@ use Rattle.plan.specs.declared.Answer.{Answer}
 use Rattle.plan.specs.declared.Answer.the-variants.{Accepted, Refused}
 use Rattle.plan.specs.declared.Head.{Head}
 use Rattle.plan.specs.Plan.{Plan, planSheet}
-use Rattle.plan.specs.Receive.{roomFor, ifRoom, heads, disksLeft, shortLeft, Received}
+use Rattle.plan.specs.Receive.{ifRoom, heads, disksLeft, shortLeft, Received}
 use Rattle.plan.specs.Told.{toldPlan}
 use Rattle.basics.proofs.Buffer.{over-front}
 use Rattle.plan.proofs.RoundTrip.{read-written, same-plan}
@@ -43,11 +42,11 @@ accepted-head bytes (Refused r) h e = absurd (let z : _≡_ {A = ℕ} 0 1 = cc i
 module _ {o : Out Plan} {bytes : ℕ} {disks short disks′ short′ : List ℕ} {a : Answer} where
   pub received-plan : (p : Plan) → o ≡ got p bytes → length (p .disks) ≤ length disks → length (p .short) ≤ length short
       → Received o bytes disks short a disks′ short′ → (h : Head) × (a ≡ Accepted h) × (handed h disks′ short′ ≡ p)
-  unfolding ifRoom heads disksLeft shortLeft roomFor
+  unfolding ifRoom heads disksLeft shortLeft
   received-plan p e l k r =
       let h : Head = record { blocks = length (p .disks); time = p .time; size = length (p .short) } in
       let s : ifRoom o disks short ≡ got p bytes =
-      ap (λ (x : Out Plan). ifRoom x disks short) e ∙ pick-true _ _ (and-both _ _ (le-leb _ _ l) (le-leb _ _ k)) in
+      ap (λ (x : Out Plan). ifRoom x disks short) e ∙ pick-true _ _ (le-leb _ _ l) ∙ pick-true _ _ (le-leb _ _ k) in
       let nd = length (p .disks) in
       let ns = length (p .short) in
       let ds : take nd disks′ ≡ p .disks =

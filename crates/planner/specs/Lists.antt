@@ -25,7 +25,7 @@ pub record Spells (m : Case) (r : Spelling) : Type 0 where
   pub costs-held : r .costs ≡ padTo 0 disksMost costs
   pub starts-held : r .starts ≡ padTo 0 disksMost starts
 
--- Q, or the refusal's number
+-- Q, or the refusal
 unfoldable pub sized : Out Case → Out ℕ
 sized (got m e) = got (m .blocks) e
 sized (refused n) = refused n

@@ -16,9 +16,9 @@ use Rattle.mask.specs.Count.{members}
 use Rattle.mask.specs.Has.{has}
 use Rattle.mask.proofs.Has.{has-zero}
 use Rattle.basics.proofs.Count.{count-none}
-use Rattle.field.specs.declared.Refusal.{Refusal}
-use Rattle.field.specs.Refusal.{numberOf}
-use Rattle.field.specs.Sheet.{Out, got, refused}
+use Rattle.field.specs.declared.Fault.{Fault}
+use Rattle.field.specs.Refusal.{noteOf}
+use Rattle.field.specs.Sheet.{Note, Out, got, refused}
 use Rattle.basics.proofs.Lists.{all-at}
 use Rattle.field.proofs.Values.{ascending-rises, times-all}
 use Rattle.basics.specs.Lists.{All, Rises}
@@ -96,7 +96,7 @@ unfolding counted
 counted-got (got ms e) len q h = (ms, cc, cc)
 counted-got (refused n) len q h = absurd (let z : _≡_ {A = ℕ} 0 1 = cc in omega arith)
 
-counted-refused : (o : Out (List ℕ)) (n : ℕ) → refused n ≡ counted o → o ≡ refused n
+counted-refused : (o : Out (List ℕ)) (n : Note) → refused n ≡ counted o → o ≡ refused n
 unfolding counted
 counted-refused (got ms e) n h = absurd (let z : _≡_ {A = ℕ} 0 1 = cc in omega arith)
 counted-refused (refused m) n h = cc
@@ -125,7 +125,7 @@ pub accepted-at : {unit t n : ℕ} {s : List ℕ} {q : ℕ} {copies : List ℕ} 
 accepted-at {unit} {t} {n} {s} {q} {copies} a i l =
     subst (Sendable n) (getD-take q copies i 0 l) (all-at (Sendable n) (take q copies) (a .blocks) i 0 (omega (arith, a .count)))
 
-pub refused-sheet : (len : ℕ) (o : Out (List ℕ)) (r : Request) (e : Refusal) → Told len o r → r .answer ≡ Refused e
-    → o ≡ refused (numberOf e)
+pub refused-sheet : (len : ℕ) (o : Out (List ℕ)) (r : Request) (e : Fault) → Told len o r → r .answer ≡ Refused e
+    → o ≡ refused (noteOf e)
 unfolding toldAnswer
-refused-sheet len o r e a h = counted-refused o (numberOf e) (sym (ap (toldAnswer len) h) ∙ a .told)
+refused-sheet len o r e a h = counted-refused o (noteOf e) (sym (ap (toldAnswer len) h) ∙ a .told)

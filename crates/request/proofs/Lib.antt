@@ -5,3 +5,5 @@ pub mod Accepted
 pub mod RoundTrip
 pub mod Longest
 pub mod Unique
+pub mod Placed
+pub mod Known

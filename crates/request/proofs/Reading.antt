@@ -2,27 +2,27 @@
 --     last-few, last-all, last-under                       the last disk
 --     gather-done, gather-step, gather-stop                the disks of a block, one by one
 --     Gathering                                            as a loop: the disks read so far are in m, the rest is still to be read
---     block-none, block-many, block-of, block-stops        a block, by its copy count
+--     block-of, block-stops                                a block, by its copy count
 --     heading-stops, heading-unset, heading-count          the fields before the blocks, by where they stop
 --     Filling, filling-start, filling-step, filling-stop, filling-extra, filling-done    the blocks, as a loop
 --     sheet-next, sheet-stops, answered-of, answered-sheet the whole sheet
 --     Listed, Headed, Whole, block-got, heading-got, sheet-got     what an accepted block, heading or sheet says of each part
 use mathlib.Core.Path.{_≡_, refl, sym, ap, _∙_, subst, subst⁻¹}
-use mathlib.Core.Bool.{true, not, _||_, true≢false}
+use mathlib.Core.Bool.{true, _||_}
 use mathlib.Core.List.{List, [], _∷_}
 use Prim.Native.Nat.{ℕ, suc, _+_, _-_, _^_, _≤_, _<_}
 use native.Mathlib.Omega.{arith}
-use borrow.Author.Tests.{eq-eqb, ne-eqb, lt-ltb, le-ltb, le-leb, lt-leb, leb-true, ltb-true}
-use lib.Dec.{eqb, leb, ltb, lit<}
+use borrow.Author.Tests.{lt-ltb, le-ltb, ltb-true}
+use lib.Dec.{eqb, ltb, lit<}
 use lib.ListN.{length, replicate, take, drop, set, length-set, length-replicate, getD}
 use lib.Seq.{length-take-le, take-suc-set, drop-set-lt, drop-drop}
 use Rattle.basics.proofs.Choice.{pick-true, pick-false, pick-elim}
-use Rattle.field.specs.declared.Refusal.{Refusal}
-use Rattle.field.specs.Refusal.{numberOf}
-use Rattle.field.specs.Sheet.{Out, got, refused, Parser, andThen, _>>=_, _>>_, pure, require, times}
-use Rattle.field.specs.Field.{number, opening, inside, rising, ascending, end, whole}
-use Rattle.field.proofs.Sheet.{next, then, stops, halts, pass, fail, Step, bind-got, after-got, passed, pure-got}
-use Rattle.field.proofs.Values.{between-range}
+use Rattle.field.specs.declared.Fault.{Fault}
+use Rattle.field.specs.Refusal.{noteOf}
+use Rattle.field.specs.Sheet.{Note, Out, got, refused, note, Parser, andThen, _>>=_, _>>_, pure, here, require, times}
+use Rattle.field.specs.Field.{number, between, opening, inside, rising, ascending, end, whole}
+use Rattle.field.proofs.Sheet.{next, then, stops, halts, pass, fail, at-here, Step, bind-got, after-got, passed, pure-got}
+use Rattle.field.proofs.Values.{between-within, between-range}
 use Rattle.field.proofs.Lists.{prefix, times-start, times-step, times-stop, times-done}
 use Rattle.field.proofs.Whole.{whole-next, whole-stops, whole-got, end-place}
 use Rattle.request.specs.declared.Answer.the-variants.{Accepted}
@@ -88,7 +88,7 @@ module _ (high : ℕ) (s : List ℕ) (left floor at m : ℕ) where
       ap (λ (k : ℕ). masked m (ascending k floor high s at)) k ∙ ap (masked m) (next (rising floor high) _ s at h)
       ∙ listed m v (ascending (left - 1) (v + 1) high) s e ∙ ap (λ (k : ℕ). masked k (ascending (left - 1) (v + 1) high s e)) (sym q)
 
-  pub gather-stop : {n : ℕ} → (left ≡ 0 → ⊥) → rising floor high s at ≡ refused n → masked m (ascending left floor high s at) ≡ refused n
+  pub gather-stop : {n : Note} → (left ≡ 0 → ⊥) → rising floor high s at ≡ refused n → masked m (ascending left floor high s at) ≡ refused n
   unfolding ascending masked
   gather-stop {n} z h =
       let k : left ≡ suc (left - 1) = omega arith in
@@ -105,18 +105,18 @@ gathering-start = record { rest = refl; above = lit< tt }
 
 module _ {high : ℕ} {s : List ℕ} {at k m floor p left : ℕ} (g : Gathering high s at k m floor p left) where
   -- the first refusal stands
-  pub gathering-stop : {n : ℕ} → 0 < left → rising floor high s p ≡ refused n → refused n ≡ masked 0 (ascending k 0 high s at)
+  pub gathering-stop : {n : Note} → 0 < left → rising floor high s p ≡ refused n → refused n ≡ masked 0 (ascending k 0 high s at)
   gathering-stop l h = sym (gather-stop high s left floor p m (λ z. omega (arith, l, z)) h) ∙ g .rest
 
-  pub gathering-ends : 0 < left → length s ≤ p → refused 1 ≡ masked 0 (ascending k 0 high s at)
-  gathering-ends l h = gathering-stop l (between-stops s p (number-ends s p h) floor high 8 6)
+  pub gathering-ends : 0 < left → length s ≤ p → refused (note 1 (length s)) ≡ masked 0 (ascending k 0 high s at)
+  gathering-ends l h = gathering-stop l (between-stops s p (number-ends s p h) floor high 8 16)
 
   module _ {d : ℕ} (few : high < disksMost) (here : p < length s) (is : d ≡ getD s p 0) (within : d ≤ high) where
     stands : number s p ≡ got d (p + 1)
     stands = number-byte s p here (omega (arith, is)) ∙ ap (λ (v : ℕ). got v (p + 1)) (sym is)
 
-    pub gathering-low : 0 < left → d < floor → refused 8 ≡ masked 0 (ascending k 0 high s at)
-    gathering-low l b = gathering-stop l (between-under s p stands floor high 8 6 within b)
+    pub gathering-low : 0 < left → d < floor → refused (note 8 p) ≡ masked 0 (ascending k 0 high s at)
+    gathering-low l b = gathering-stop l (between-under s p stands floor high 8 16 within b)
 
     pub gathering-step : {r : ℕ} → 0 < left → floor ≤ d → r < 2 ^ 64 → ((e : ℕ) → has r e ≡ (eqb e d || has m e))
         → Gathering high s at k r (d + 1) (p + 1) (left - 1)
@@ -124,7 +124,7 @@ module _ {high : ℕ} {s : List ℕ} {at k m floor p left : ℕ} (g : Gathering 
         let up : m < 2 ^ d = lt-up (g .above) b in
         let sum : r ≡ m + 2 ^ d = put-sum m d r (omega arith) up fits a in
         record {
-          rest = sym (gather-step high s left floor p m r sum (λ z. omega (arith, l, z)) (between-got s p stands floor high 8 6 b within))
+          rest = sym (gather-step high s left floor p m r sum (λ z. omega (arith, l, z)) (between-got s p stands floor high 8 16 b within))
               ∙ g .rest;
           above = subst⁻¹ (λ (x : ℕ). x < 2 ^ (d + 1)) sum (plus-lt d m up);
         }
@@ -134,16 +134,16 @@ module _ {high : ℕ} {s : List ℕ} {at k m floor p left : ℕ} (g : Gathering 
 
 -- a number whose first byte is above the last disk is no disk's
 module _ (high : ℕ) (s : List ℕ) (at : ℕ) {r : Copies} where
-  pub beyond-got : {v e : ℕ} → high < disksMost → at < length s → high < getD s at 0 → toldCopies r ≡ refused 6
+  pub beyond-got : {v e : ℕ} → high < disksMost → at < length s → high < getD s at 0 → toldCopies r ≡ refused (note 16 at)
       → number s at ≡ got v e → Beyond high s at r
   beyond-got few here over t h = record {
-    number = 6;
+    why = note 16 at;
     told = t;
-    stops = λ floor. between-above s at h floor high 8 6 (number-above s at here (omega arith) over h);
+    stops = λ floor. between-above s at h floor high 8 16 (number-above s at here (omega arith) over h);
   }
 
-  pub beyond-stops : {n : ℕ} → toldCopies r ≡ refused n → number s at ≡ refused n → Beyond high s at r
-  beyond-stops {n} t h = record { number = n; told = t; stops = λ floor. between-stops s at h floor high 8 6 }
+  pub beyond-stops : {n : Note} → toldCopies r ≡ refused n → number s at ≡ refused n → Beyond high s at r
+  beyond-stops {n} t h = record { why = n; told = t; stops = λ floor. between-stops s at h floor high 8 16 }
 
 -- ---- a block
 
@@ -152,28 +152,18 @@ pub copies-got : {f : Copies} {o : Out ℕ} {m e : ℕ} → toldCopies f ≡ o �
 unfolding toldCopies
 copies-got h q = sym h ∙ ap toldCopies q
 
-pub copies-refused : {f : Copies} {o : Out ℕ} {r : Refusal} → toldCopies f ≡ o → f ≡ NoBlock r → o ≡ refused (numberOf r)
+pub copies-refused : {f : Copies} {o : Out ℕ} {r : Fault} → toldCopies f ≡ o → f ≡ NoBlock r → o ≡ refused (noteOf r)
 unfolding toldCopies
 copies-refused h q = sym h ∙ ap toldCopies q
 
 module _ (high : ℕ) (s : List ℕ) (at : ℕ) where
-  module _ (k e : ℕ) (h : number s at ≡ got k e) where
-    pub block-none : k ≡ 0 → block high s at ≡ refused 7
-    unfolding block
-    block-none z = next number _ s at h ∙ fail 7 _ s e (ap not (eq-eqb k 0 z))
-
-    pub block-many : (k ≡ 0 → ⊥) → copiesMost < k → block high s at ≡ refused 6
-    unfolding block
-    block-many z l = next number _ s at h ∙ pass 7 _ s e (ap not (ne-eqb k 0 z)) ∙ fail 6 _ s e (lt-leb k copiesMost l)
-
-    pub block-of : (k ≡ 0 → ⊥) → k ≤ copiesMost → block high s at ≡ masked 0 (ascending k 0 high s e)
-    unfolding block
-    block-of z l = next number _ s at h ∙ pass 7 _ s e (ap not (ne-eqb k 0 z)) ∙ pass 6 _ s e (le-leb k copiesMost l)
-        ∙ summed (ascending k 0 high) s e
-
-  pub block-stops : {n : ℕ} → number s at ≡ refused n → block high s at ≡ refused n
+  pub block-of : {k e : ℕ} → between 1 copiesMost 7 6 s at ≡ got k e → block high s at ≡ masked 0 (ascending k 0 high s e)
   unfolding block
-  block-stops h = stops number _ s at h
+  block-of {k} {e} h = next (between 1 copiesMost 7 6) _ s at h ∙ summed (ascending k 0 high) s e
+
+  pub block-stops : {n : Note} → between 1 copiesMost 7 6 s at ≡ refused n → block high s at ≡ refused n
+  unfolding block
+  block-stops h = stops (between 1 copiesMost 7 6) _ s at h
 
 -- what an accepted block says of each field
 pub record Listed (high : ℕ) (s : List ℕ) (at m e : ℕ) : Type 0 where
@@ -189,22 +179,19 @@ pub record Listed (high : ℕ) (s : List ℕ) (at m e : ℕ) : Type 0 where
 pub block-got : (high : ℕ) (s : List ℕ) (at m e : ℕ) → block high s at ≡ got m e → Listed high s at m e
 unfolding block
 block-got high s at m e h =
-    let rest : ℕ → Parser ℕ = λ k. ascending k 0 high >>= λ ds. pure (maskOf ds) in
-    let f : Step (number s at) (λ k j. (require (not (eqb k 0)) 7 >> (require (leb k copiesMost) 6 >> rest k)) s j) m e =
-    bind-got number s at m e (λ k. require (not (eqb k 0)) 7 >> (require (leb k copiesMost) 6 >> rest k)) h in
-    let g : (not (eqb (f .found) 0) ≡ true)
-    × ((require (leb (f .found) copiesMost) 6 >> rest (f .found)) s (f .mid) ≡ got m e) = passed _ 7 _ s (f .mid) m e (f .last) in
-    let i : (leb (f .found) copiesMost ≡ true) × (rest (f .found) s (f .mid) ≡ got m e) = passed _ 6 _ s (f .mid) m e (g .1) in
+    let f : Step (between 1 copiesMost 7 6 s at) (λ k j. (ascending k 0 high >>= λ ds. pure (maskOf ds)) s j) m e =
+    bind-got (between 1 copiesMost 7 6) s at m e (λ k. ascending k 0 high >>= λ ds. pure (maskOf ds)) h in
+    let w = between-within 1 copiesMost 7 6 s at (f .first) in
     let j : Step (ascending (f .found) 0 high s (f .mid)) (λ ds k. pure (maskOf ds) s k) m e =
-    bind-got (ascending (f .found) 0 high) s (f .mid) m e (λ ds. pure (maskOf ds)) (i .1) in
+    bind-got (ascending (f .found) 0 high) s (f .mid) m e (λ ds. pure (maskOf ds)) (f .last) in
     let p : (maskOf (j .found) ≡ m) × (j .mid ≡ e) = pure-got (maskOf (j .found)) m s (j .mid) e (j .last) in
     record {
       count = f .found;
       mid = f .mid;
       disks = j .found;
-      first = f .first;
-      some = λ z. true≢false (sym (g .0) ∙ ap not (eq-eqb (f .found) 0 z));
-      few = leb-true (f .found) copiesMost (i .0);
+      first = w .0;
+      some = λ z. omega (arith, w .1);
+      few = w .2;
       rest = j .first ∙ ap (got (j .found)) (p .1);
       sum = p .0;
     }
@@ -212,39 +199,40 @@ block-got high s at m e h =
 -- ---- the fields before the blocks
 
 module _ (unit t n : ℕ) (s : List ℕ) where
-  pub heading-stops : {m : ℕ} → opening (2 ∷ []) unit t s 0 ≡ refused m → heading unit t n s 0 ≡ refused m
+  pub heading-stops : {m : Note} → opening (2 ∷ []) unit t s 0 ≡ refused m → heading unit t n s 0 ≡ refused m
   unfolding heading
   heading-stops h = halts (opening (2 ∷ []) unit t) _ s 0 h
 
   module _ {v e : ℕ} (h : opening (2 ∷ []) unit t s 0 ≡ got v e) where
-    pub heading-unset : n ≡ 0 → heading unit t n s 0 ≡ refused 10
+    pub heading-unset : n ≡ 0 → heading unit t n s 0 ≡ refused (note 10 e)
     unfolding heading
-    heading-unset z = then (opening (2 ∷ []) unit t) _ s 0 h ∙ fail 10 _ s e (le-ltb 0 n (omega arith))
+    heading-unset z = then (opening (2 ∷ []) unit t) _ s 0 h ∙ at-here _ s e ∙ fail (note 10 e) _ s e (le-ltb 0 n (omega arith))
 
-    pub heading-count : (n ≡ 0 → ⊥) → heading unit t n s 0 ≡ inside 0 blocksMost 6 s e
+    pub heading-count : (n ≡ 0 → ⊥) → {o : Out ℕ} → o ≡ inside 0 blocksMost 6 s e → o ≡ heading unit t n s 0
     unfolding heading
-    heading-count z = then (opening (2 ∷ []) unit t) _ s 0 h ∙ pass 10 _ s e (lt-ltb 0 n (omega arith))
+    heading-count z g =
+        g ∙ sym (then (opening (2 ∷ []) unit t) _ s 0 h ∙ at-here _ s e ∙ pass (note 10 e) _ s e (lt-ltb 0 n (omega arith)))
 
 -- what an accepted heading says of each part
-pub record Headed (unit t n : ℕ) (s : List ℕ) (q e : ℕ) : Type 0 where
+pub record Headed (unit t n : ℕ) (s : List ℕ) (at q e : ℕ) : Type 0 where
   pub lease : ℕ
   pub mid : ℕ
-  pub first : opening (2 ∷ []) unit t s 0 ≡ got lease mid
+  pub first : opening (2 ∷ []) unit t s at ≡ got lease mid
   pub known : ltb 0 n ≡ true
   pub last : inside 0 blocksMost 6 s mid ≡ got q e
 
-pub heading-got : (unit t n : ℕ) (s : List ℕ) (q e : ℕ) → heading unit t n s 0 ≡ got q e → Headed unit t n s q e
+pub heading-got : (unit t n : ℕ) (s : List ℕ) (at q e : ℕ) → heading unit t n s at ≡ got q e → Headed unit t n s at q e
 unfolding heading
-heading-got unit t n s q e h =
-    let f : Step (opening (2 ∷ []) unit t s 0) (λ _ m. (require (ltb 0 n) 10 >> inside 0 blocksMost 6) s m) q e =
-    after-got (opening (2 ∷ []) unit t) s 0 q e (require (ltb 0 n) 10 >> inside 0 blocksMost 6) h in
-    let j : (ltb 0 n ≡ true)
-    × (inside 0 blocksMost 6 s (f .mid) ≡ got q e) = passed (ltb 0 n) 10 (inside 0 blocksMost 6) s (f .mid) q e (f .last) in
+heading-got unit t n s at q e h =
+    let due : Parser ℕ = here >>= λ at. require (ltb 0 n) (note 10 at) >> inside 0 blocksMost 6 in
+    let f : Step (opening (2 ∷ []) unit t s at) (λ _ m. due s m) q e = after-got (opening (2 ∷ []) unit t) s at q e due h in
+    let j : (ltb 0 n ≡ true) × (inside 0 blocksMost 6 s (f .mid) ≡ got q e) =
+    passed (ltb 0 n) (note 10 (f .mid)) (inside 0 blocksMost 6) s (f .mid) q e (sym (at-here _ s (f .mid)) ∙ f .last) in
     record { lease = f .found; mid = f .mid; first = f .first; known = j .0; last = j .1 }
 
 -- Q is in its range
-pub heading-within : (unit t n : ℕ) (s : List ℕ) {q e : ℕ} → heading unit t n s 0 ≡ got q e → q ≤ blocksMost
-heading-within unit t n s {q} {e} h = let g : Headed unit t n s q e = heading-got unit t n s q e h in
+pub heading-within : (unit t n : ℕ) (s : List ℕ) (at : ℕ) {q e : ℕ} → heading unit t n s at ≡ got q e → q ≤ blocksMost
+heading-within unit t n s at {q} {e} h = let g : Headed unit t n s at q e = heading-got unit t n s at q e h in
     between-range 0 blocksMost 6 6 s (g .mid) (g .last) .1
 
 -- ---- the blocks
@@ -279,7 +267,7 @@ module _ (q high : ℕ) (s : List ℕ) (at : ℕ) where
               ∙ ap (λ (k : ℕ). take k (set copies i m)) {x = suc i} {y = i + 1} (omega arith));
         }
 
-    pub filling-stop : {n : ℕ} → i < q → block high s p ≡ refused n → whole (times q (block high)) s at ≡ refused n
+    pub filling-stop : {n : Note} → i < q → block high s p ≡ refused n → whole (times q (block high)) s at ≡ refused n
     unfolding whole
     filling-stop l h = stops (times q (block high)) _ s at (f .held ∙ times-stop (block high) s q i p (take i copies) l h)
 
@@ -288,7 +276,7 @@ module _ (q high : ℕ) (s : List ℕ) (at : ℕ) where
         let e : i ≡ q = omega (arith, f .within) in
         f .held ∙ times-done (block high) s q i p (take i copies) l ∙ ap (λ (k : ℕ). got (take k copies) p) e
 
-    pub filling-extra : {n : ℕ} → q ≤ i → end s p ≡ refused n → whole (times q (block high)) s at ≡ refused n
+    pub filling-extra : {n : Note} → q ≤ i → end s p ≡ refused n → whole (times q (block high)) s at ≡ refused n
     unfolding whole
     filling-extra l h = next (times q (block high)) _ s at (all-read l) ∙ halts end _ s p h
 
@@ -310,7 +298,7 @@ module _ (q high : ℕ) (s : List ℕ) (at : ℕ) where
 -- ---- the whole sheet
 
 -- what is told of a refusal is told of a sheet that is refused so
-pub answered-of : {len n : ℕ} {o : Out (List ℕ)} {r : Request} → o ≡ refused n → Told len (refused n) r → Told len o r
+pub answered-of : {len : ℕ} {n : Note} {o : Out (List ℕ)} {r : Request} → o ≡ refused n → Told len (refused n) r → Told len o r
 answered-of {len} {n} {o} {r} h a = subst (λ (x : Out (List ℕ)). Told len x r) (sym h) a
 
 module _ (unit t n : ℕ) (s : List ℕ) where
@@ -318,7 +306,7 @@ module _ (unit t n : ℕ) (s : List ℕ) where
   unfolding requestSheet
   sheet-next h = whole-next (heading unit t n) (λ q. times q (block (lastDisk n))) s 0 h
 
-  pub sheet-stops : {m : ℕ} → heading unit t n s 0 ≡ refused m → requestSheet unit t n s 0 ≡ refused m
+  pub sheet-stops : {m : Note} → heading unit t n s 0 ≡ refused m → requestSheet unit t n s 0 ≡ refused m
   unfolding requestSheet
   sheet-stops h = whole-stops (heading unit t n) (λ q. times q (block (lastDisk n))) s 0 h
 
@@ -333,7 +321,7 @@ answered-sheet unit t n s {q} {e} {high} {r} h l a =
 pub record Whole (unit t n : ℕ) (s ms : List ℕ) (e : ℕ) : Type 0 where
   pub count : ℕ
   pub mid : ℕ
-  pub headed : Headed unit t n s count mid
+  pub headed : Headed unit t n s 0 count mid
   pub small : count ≤ blocksMost
   pub rest : times count (block (lastDisk n)) s mid ≡ got ms e
   pub ends : e ≡ length s
@@ -348,8 +336,8 @@ sheet-got unit t n s ms e h =
     record {
       count = f .found;
       mid = f .mid;
-      headed = heading-got unit t n s (f .found) (f .mid) (f .first);
-      small = heading-within unit t n s (f .first);
+      headed = heading-got unit t n s 0 (f .found) (f .mid) (f .first);
+      small = heading-within unit t n s 0 (f .first);
       rest = f .last;
       ends = w .1;
     }

@@ -3,24 +3,23 @@
 --     read-written          reading what the writer wrote gives the same copies
 --     write-accepted, written-accepted     writing what the reader accepted gives the same bytes
 use mathlib.Core.Path.{_≡_, refl, sym, ap, _∙_, subst}
-use mathlib.Core.Bool.{not}
 use mathlib.Core.List.{List, [], _∷_, _++_}
 use Prim.Native.Nat.{ℕ, _+_, _^_, _≤_, _<_}
 use native.Mathlib.Omega.{arith}
-use borrow.Author.Tests.{ne-eqb, lt-ltb, le-leb, ltb-true}
+use borrow.Author.Tests.{lt-ltb, le-leb, ltb-true}
 use lib.ListN.{length, take}
 use Rattle.number.specs.Bytes.{Bytes}
 use Rattle.number.specs.Encode.{encode}
 use Rattle.field.specs.declared.Written.{Written}
 use Rattle.field.specs.declared.Written.the-variants.{Length}
-use Rattle.field.specs.Sheet.{got, refused, _>>=_, times}
+use Rattle.field.specs.Sheet.{got, refused, note, _>>=_, times}
 use Rattle.field.specs.Field.{whole}
 use Rattle.field.specs.Put.{spellAll, openingBytes}
 use Rattle.basics.specs.Buffer.{over}
 use Rattle.basics.proofs.Choice.{pick-true}
 use Rattle.field.specs.Send.{Draft, sheet, none, toldWritten, answerTo, leftBy, Sent}
 use Rattle.field.proofs.Sends.{sent-bytes, written-injective}
-use Rattle.field.proofs.Read.{Reads, reads-bind, reads-then, reads-pure, reads-require, reads-tested, reads-checked, reads-number}
+use Rattle.field.proofs.Read.{Reads, reads-bind, reads-then, reads-pure, reads-here, reads-require, reads-tested, reads-checked}
 use Rattle.field.proofs.Read.{reads-between, reads-whole}
 use Rattle.field.proofs.Spelt.{Spelt, spelt-join, spelt-whole, number-spelt, between-spelt}
 use Rattle.basics.proofs.Lists.{one-listed}
@@ -54,18 +53,16 @@ module _ (n : ℕ) (known : n ≡ 0 → ⊥) (within : n ≤ disksMost) where
       let some : length (disksOf m) ≡ 0 → ⊥ = λ z. s .some (sym back ∙ no-disks (disksOf m) z) in
       let few : length (disksOf m) ≤ copiesMost = omega (arith, count-of m, s .few) in
       subst (λ (k : ℕ). Reads (block (lastDisk n)) (blockBytes m) k) back
-      (reads-bind _ (reads-number (length (disksOf m)) (omega arith))
-      (reads-tested (reads-require 7 (ap not (ne-eqb (length (disksOf m)) 0 some)))
-      (reads-tested (reads-require 6 (le-leb (length (disksOf m)) copiesMost few))
+      (reads-bind _ (reads-between 1 copiesMost 7 6 (length (disksOf m)) (omega (arith, some)) few (omega arith))
       (reads-checked _ (reads-ascending (lastDisk n) (omega (arith, last-under n)) 0 (disksOf m)
       (disks-rise (lastDisk n) m (last-under n) top))
-      (reads-pure (maskOf (disksOf m)))))))
+      (reads-pure (maskOf (disksOf m)))))
 
   reads-heading : (unit t q : ℕ) → unit < 2 ^ 32 → t < 2 ^ 32 → 0 < t → q ≤ blocksMost → Reads (heading unit t n) (headingBytes unit t q) q
   unfolding heading headingBytes
   reads-heading unit t q hu ht pt hq =
       reads-then (reads-opening unit t hu pt ht (2 ∷ []) 2 (one-listed 2) (omega arith))
-      (reads-tested (reads-require 10 (lt-ltb 0 n (omega (arith, known))))
+      (reads-here _ λ at. reads-tested (reads-require (note 10 at) (lt-ltb 0 n (omega (arith, known))))
       (reads-between 0 blocksMost 6 6 q (omega arith) hq (omega arith)))
 
 -- the bytes of a draft are read as its copies
@@ -113,7 +110,7 @@ module _ (s : List ℕ) (bytes : Bytes s) (n : ℕ) (known : n ≡ 0 → ⊥) (w
         block-sendable n known within s at m e h,
       )
 
-  heading-spelt : (unit t q e : ℕ) → Headed unit t n s q e → Spelt s 0 e (headingBytes unit t q) × (0 < t) × (q ≤ blocksMost)
+  heading-spelt : (unit t q e : ℕ) → Headed unit t n s 0 q e → Spelt s 0 e (headingBytes unit t q) × (0 < t) × (q ≤ blocksMost)
   unfolding headingBytes
   heading-spelt unit t q e h =
       let f : Spelt s 0 (h .mid) (openingBytes 2 unit t) × (0 < t) = opening-one unit t 2 s 0 bytes (h .first) in

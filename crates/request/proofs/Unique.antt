@@ -3,10 +3,10 @@ use mathlib.Core.Path.{_≡_, sym, ap, ap₂, _∙_}
 use mathlib.Core.List.{List}
 use Prim.Native.Nat.{ℕ}
 use Rattle.field.specs.declared.Written.{Written}
-use Rattle.field.specs.Refusal.{numberOf}
+use Rattle.field.specs.Refusal.{noteOf}
 use Rattle.field.specs.Send.{Sent}
 use Rattle.field.proofs.Sends.{sent-unique}
-use Rattle.field.proofs.Unique.{number-injective}
+use Rattle.field.proofs.Unique.{note-injective}
 use Rattle.request.specs.declared.Answer.{Answer}
 use Rattle.request.specs.declared.Answer.the-variants.{Accepted, Refused}
 use Rattle.request.specs.declared.Request.{Request}
@@ -20,7 +20,7 @@ unfolding toldAnswer
 told-injective len (Accepted q) (Accepted p) h = cc
 told-injective len (Accepted q) (Refused e) h = cc
 told-injective len (Refused r) (Accepted p) h = cc
-told-injective len (Refused r) (Refused e) h = let n : numberOf r ≡ numberOf e = cc in ap Refused (number-injective r e n)
+told-injective len (Refused r) (Refused e) h = let n : noteOf r ≡ noteOf e = cc in ap Refused (note-injective r e n)
 
 same-request : (r r′ : Request) → r .answer ≡ r′ .answer → r .copies ≡ r′ .copies → r ≡ r′
 same-request r r′ a c = let made : Answer → List ℕ → Request = λ x y. record { answer = x; copies = y } in ap₂ made a c

@@ -39,12 +39,13 @@ use borrow.Author.Tests.{eq-eqb, ne-eqb, lt-ltb, le-ltb, le-leb, lt-leb, ltb-tru
 use Rattle.mask.specs.Member.{Below}
 use Rattle.mask.proofs.Has.{has-zero, has-above, has-bound, mask-some}
 use Rattle.field.specs.Send.{Draft, none, sheet, Sent}
+use Rattle.field.specs.Sheet.{Note, unplaced}
 use Rattle.request.specs.Parts.{Counted, Sized}
 use Rattle.basics.specs.Choice.{pick}
-use Rattle.field.specs.declared.Refusal.{Refusal}
+use Rattle.field.specs.declared.Fault.{Fault}
 use Rattle.field.specs.declared.Written.{Written}
 use Rattle.field.specs.declared.Written.the-variants.{Length, Refused}
-use Rattle.field.specs.Refusal.{numberOf}
+use Rattle.field.specs.Refusal.{noteOf}
 use Rattle.basics.specs.Lists.{All}
 use Rattle.field.proofs.Sends.{sent-fits}
 use Rattle.field.proofs.Opened.{opening-length}
@@ -242,17 +243,17 @@ module _ (n : ℕ) (ms : List ℕ) (total i : ℕ) (c : Counting n ms total i) w
     at-block : (d : Draft) → checked n ms d ≡ checked n (m ∷ drop (suc i) ms) d
     at-block d = c .same d ∙ ap (λ (x : List ℕ). checked n x d) here
 
-    pub counting-none : m ≡ 0 → (d : Draft) → checked n ms d ≡ none 7
+    pub counting-none : m ≡ 0 → (d : Draft) → checked n ms d ≡ none (unplaced 7)
     unfolding checked
     counting-none z d = at-block d ∙ pick-true _ _ (eq-eqb m 0 z)
 
     module _ (some : m ≡ 0 → ⊥) where
-      pub counting-many : copiesMost < members disksMost m → (d : Draft) → checked n ms d ≡ none 6
+      pub counting-many : copiesMost < members disksMost m → (d : Draft) → checked n ms d ≡ none (unplaced 6)
       unfolding checked
       counting-many k d = at-block d ∙ pick-false _ _ (ne-eqb m 0 some) ∙ pick-true _ _ (lt-ltb copiesMost (members disksMost m) k)
 
       module _ (few : members disksMost m ≤ copiesMost) where
-        pub counting-high : 2 ^ n ≤ m → (d : Draft) → checked n ms d ≡ none 6
+        pub counting-high : 2 ^ n ≤ m → (d : Draft) → checked n ms d ≡ none (unplaced 16)
         unfolding checked
         counting-high g d = at-block d ∙ pick-false _ _ (ne-eqb m 0 some) ∙ pick-false _ _ (le-ltb copiesMost (members disksMost m) few)
             ∙ pick-true _ _ (le-leb (2 ^ n) m g)
@@ -281,22 +282,22 @@ module _ (n : ℕ) (ms : List ℕ) (total i : ℕ) (c : Counting n ms total i) w
 -- ---- in field order
 
 module _ (unit t n : ℕ) (ms : List ℕ) where
-  pub draft-tenancy : t ≡ 0 → requestDraft unit t n ms ≡ none 6
+  pub draft-tenancy : t ≡ 0 → requestDraft unit t n ms ≡ none (unplaced 6)
   unfolding requestDraft
   draft-tenancy z = pick-true _ _ (eq-eqb t 0 z)
 
   module _ (rented : t ≡ 0 → ⊥) where
-    pub draft-unset : n ≡ 0 → requestDraft unit t n ms ≡ none 6
+    pub draft-unset : n ≡ 0 → requestDraft unit t n ms ≡ none (unplaced 6)
     unfolding requestDraft
     draft-unset z = pick-false _ _ (ne-eqb t 0 rented) ∙ pick-true _ _ (eq-eqb n 0 z)
 
     module _ (known : n ≡ 0 → ⊥) where
-      pub draft-large : disksMost < n → requestDraft unit t n ms ≡ none 6
+      pub draft-large : disksMost < n → requestDraft unit t n ms ≡ none (unplaced 6)
       unfolding requestDraft
       draft-large l = pick-false _ _ (ne-eqb t 0 rented) ∙ pick-false _ _ (ne-eqb n 0 known) ∙ pick-true _ _ (lt-ltb disksMost n l)
 
       module _ (few : n ≤ disksMost) where
-        pub draft-long : blocksMost < length ms → requestDraft unit t n ms ≡ none 6
+        pub draft-long : blocksMost < length ms → requestDraft unit t n ms ≡ none (unplaced 6)
         unfolding requestDraft
         draft-long l =
             pick-false _ _ (ne-eqb t 0 rented) ∙ pick-false _ _ (ne-eqb n 0 known) ∙ pick-false _ _ (le-ltb disksMost n few)
@@ -328,7 +329,7 @@ checked-pass n (m ∷ ms) d a =
     ∙ pick-false _ _ (lt-leb (2 ^ n) m (a .0 .under)) ∙ checked-pass n ms d (a .1)
 
 -- a test that refuses did not hold where there is a sheet
-passes : (b : Bool) (e : ℕ) (d : Draft) (bs : List ℕ) → pick b (none e) d ≡ sheet bs → (b ≡ false) × (d ≡ sheet bs)
+passes : (b : Bool) (e : Note) (d : Draft) (bs : List ℕ) → pick b (none e) d ≡ sheet bs → (b ≡ false) × (d ≡ sheet bs)
 unfolding pick
 passes true e d bs h = absurd (let z : _≡_ {A = ℕ} 0 1 = cc in omega arith)
 passes false e d bs h = (refl, h)
@@ -337,12 +338,9 @@ pub checked-all : (n : ℕ) (ms : List ℕ) (d : Draft) (bs : List ℕ) → chec
 unfolding checked All
 checked-all n [] d bs h = (tt, h)
 checked-all n (m ∷ ms) d bs h =
-    let f : (eqb m 0 ≡ false)
-    × (pick (ltb copiesMost (members disksMost m)) (none 6) (pick (leb (2 ^ n) m) (none 6) (checked n ms d))
-    ≡ sheet bs) = passes _ 7 _ bs h in
-    let g : (ltb copiesMost (members disksMost m) ≡ false)
-    × (pick (leb (2 ^ n) m) (none 6) (checked n ms d) ≡ sheet bs) = passes _ 6 _ bs (f .1) in
-    let i : (leb (2 ^ n) m ≡ false) × (checked n ms d ≡ sheet bs) = passes _ 6 _ bs (g .1) in
+    let f = passes (eqb m 0) _ _ bs h in
+    let g = passes (ltb copiesMost (members disksMost m)) _ _ bs (f .1) in
+    let i = passes (leb (2 ^ n) m) _ _ bs (g .1) in
     let j : All (Sendable n) ms × (d ≡ sheet bs) = checked-all n ms d bs (i .1) in (
       (
         record {
@@ -368,18 +366,10 @@ pub record Drafted (unit t n : ℕ) (ms bs : List ℕ) : Type 0 where
 pub drafted : (unit t n : ℕ) (ms bs : List ℕ) → requestDraft unit t n ms ≡ sheet bs → Drafted unit t n ms bs
 unfolding requestDraft
 drafted unit t n ms bs h =
-    let f : (eqb t 0 ≡ false)
-    × (pick (eqb n 0) (none 6)
-    (pick (ltb disksMost n) (none 6) (pick (ltb blocksMost (length ms)) (none 6) (checked n ms (sheet (requestBytes unit t ms)))))
-    ≡ sheet bs) = passes _ 6 _ bs h in
-    let g : (eqb n 0 ≡ false)
-    × (pick (ltb disksMost n) (none 6)
-    (pick (ltb blocksMost (length ms)) (none 6) (checked n ms (sheet (requestBytes unit t ms)))) ≡ sheet bs) =
-    passes _ 6 _ bs (f .1) in
-    let i : (ltb disksMost n ≡ false)
-    × (pick (ltb blocksMost (length ms)) (none 6) (checked n ms (sheet (requestBytes unit t ms))) ≡ sheet bs) =
-    passes _ 6 _ bs (g .1) in
-    let j : (ltb blocksMost (length ms) ≡ false) × (checked n ms (sheet (requestBytes unit t ms)) ≡ sheet bs) = passes _ 6 _ bs (i .1) in
+    let f = passes (eqb t 0) _ _ bs h in
+    let g = passes (eqb n 0) _ _ bs (f .1) in
+    let i = passes (ltb disksMost n) _ _ bs (g .1) in
+    let j = passes (ltb blocksMost (length ms)) _ _ bs (i .1) in
     let k : All (Sendable n) ms
     × (sheet (requestBytes unit t ms) ≡ sheet bs) = checked-all n ms (sheet (requestBytes unit t ms)) bs (j .1) in
     let e : sheet (requestBytes unit t ms) ≡ sheet bs = k .1 in
@@ -412,8 +402,8 @@ pub sized-got : (n : ℕ) (ms : List ℕ) {r : Written} {k : ℕ} → Sized n ms
 unfolding Sized
 sized-got n ms s e = subst (Sized n ms) e s
 
-pub sized-refused : (n : ℕ) (ms : List ℕ) {r : Written} {e : Refusal} → Sized n ms r → r ≡ Refused e → (d : Draft)
-    → checked n ms d ≡ none (numberOf e)
+pub sized-refused : (n : ℕ) (ms : List ℕ) {r : Written} {e : Fault} → Sized n ms r → r ≡ Refused e → (d : Draft)
+    → checked n ms d ≡ none (noteOf e)
 unfolding Sized
 sized-refused n ms s q = subst (Sized n ms) q s
 

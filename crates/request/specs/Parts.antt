@@ -11,19 +11,19 @@ use Rattle.basics.specs.Limits.{blocksMost, copiesMost}
 use Rattle.field.specs.declared.Written.{Written}
 use Rattle.field.specs.declared.Written.the-variants.{Length, Refused}
 use Rattle.field.specs.Put.{spellAll}
-use Rattle.field.specs.Refusal.{numberOf}
+use Rattle.field.specs.Refusal.{noteOf}
 use Rattle.field.specs.Send.{Draft, none}
-use Rattle.field.specs.Sheet.{Out, got, refused}
+use Rattle.field.specs.Sheet.{Note, Out, got, refused}
 use Rattle.field.specs.Field.{rising}
 use Rattle.request.specs.declared.Copies.{Copies}
 use Rattle.request.specs.declared.Copies.the-variants.{Got, Refused as NoBlock}
 use Rattle.request.specs.Disks.{maskOf}
 use Rattle.request.specs.Draft.{blockBytes, checked}
 
--- a block's copies and the place after it, or a refusal's number
+-- a block's copies and the place after it, or a refusal
 unfoldable pub toldCopies : Copies → Out ℕ
 toldCopies (Got m at) = got m at
-toldCopies (NoBlock e) = refused (numberOf e)
+toldCopies (NoBlock e) = refused (noteOf e)
 
 -- the disks that were read, put in among those of m
 unfoldable pub masked : ℕ → Out (List ℕ) → Out ℕ
@@ -31,9 +31,9 @@ masked m (got ds at) = got (m + maskOf ds) at
 masked m (refused e) = refused e
 
 pub record Beyond (high : ℕ) (s : List ℕ) (at : ℕ) (r : Copies) : Type 0 where
-  pub number : ℕ
-  pub told : toldCopies r ≡ refused number
-  pub stops : (floor : ℕ) → rising floor high s at ≡ refused number
+  pub why : Note
+  pub told : toldCopies r ≡ refused why
+  pub stops : (floor : ℕ) → rising floor high s at ≡ refused why
 
 -- n is the number of bytes of at most 1,024 blocks, nine bytes each at the most
 pub record Counted (ms : List ℕ) (n : ℕ) : Type 0 where
@@ -44,4 +44,4 @@ pub record Counted (ms : List ℕ) (n : ℕ) : Type 0 where
 -- the bytes of all blocks, where every block can be sent; else the refusal of the first that cannot
 unfoldable pub Sized : ℕ → List ℕ → Written → Type 0
 Sized n ms (Length k) = Counted ms k × ((d : Draft) → checked n ms d ≡ d)
-Sized n ms (Refused e) = (d : Draft) → checked n ms d ≡ none (numberOf e)
+Sized n ms (Refused e) = (d : Draft) → checked n ms d ≡ none (noteOf e)

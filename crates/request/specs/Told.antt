@@ -8,16 +8,16 @@ use mathlib.Core.List.{List, []}
 use lib.ListN.{length}
 use Rattle.basics.specs.Limits.{blocksMost}
 use Rattle.basics.specs.Padded.{padTo}
-use Rattle.field.specs.Refusal.{numberOf}
+use Rattle.field.specs.Refusal.{noteOf}
 use Rattle.field.specs.Sheet.{Out, got, refused}
 use Rattle.request.specs.declared.Answer.{Answer}
 use Rattle.request.specs.declared.Answer.the-variants.{Accepted, Refused}
 use Rattle.request.specs.declared.Request.{Request}
 
--- Q and the length of the sheet, or a refusal's number
+-- Q and the length of the sheet, or a refusal
 unfoldable pub toldAnswer : ℕ → Answer → Out ℕ
 toldAnswer len (Accepted q) = got q len
-toldAnswer len (Refused e) = refused (numberOf e)
+toldAnswer len (Refused e) = refused (noteOf e)
 
 -- Q is as many as there are blocks
 unfoldable pub counted : Out (List ℕ) → Out ℕ

@@ -3,6 +3,7 @@ use basics::BLOCKS;
 use basics::COPIES;
 use basics::DISKS;
 use basics::Masks;
+use field::Fault;
 use field::Field;
 use field::Refusal;
 use field::Written;
@@ -13,7 +14,7 @@ ghost use Rattle.basics.specs.Limits.{disksMost, blocksMost};
 ghost use Rattle.number.specs.Encode.{encode};
 ghost use Rattle.field.specs.Field.{ascending, whole};
 ghost use Rattle.field.specs.Put.{spellAll, Laid};
-ghost use Rattle.field.specs.Refusal.{numberOf};
+ghost use Rattle.field.specs.Refusal.{noteOf};
 ghost use Rattle.field.specs.Send.{Sent, sheet};
 ghost use Rattle.field.specs.Sheet.{refused, times};
 ghost use Rattle.field.specs.Told.{told};
@@ -26,7 +27,7 @@ ghost use Rattle.request.specs.Told.{Told};
 // What a reader of requests answers: the block count Q, or the refusal.
 pub enum Answer {
     Accepted(usize),
-    Refused(Refusal),
+    Refused(Fault),
 }
 
 // The answer, and a number of copies for each block, bit d standing for disk d: 0 from Q on, and all 0 on refusal.
@@ -38,7 +39,7 @@ pub struct Request {
 // What reading one block gives: its copies and the place after it, or the refusal.
 enum Copies {
     Got(u64, usize),
-    Refused(Refusal),
+    Refused(Fault),
 }
 
 // The last disk of a unit, of which no more than DISKS count: a number of copies has a bit for each.
@@ -68,7 +69,10 @@ fn not_disk(s: &[u8], at: usize, high: u32) -> Copies
     ensures { λ r. ⌜ Beyond high (now (s .entry)) at r ⌝ }
 {
     match field::number(s, at) {
-        Field::Got(_, _) => Copies::Refused(Refusal::OutOfRange),
+        Field::Got(_, _) => Copies::Refused(Fault {
+            refusal: Refusal::BadIndex,
+            place: at,
+        }),
         Field::Refused(e) => Copies::Refused(e),
     }
 }
@@ -84,14 +88,20 @@ fn gather(s: &[u8], at: usize, k: u32, high: u32) -> Copies
     let mut left = k;
     while 0 < left {
         if s.len() <= p {
-            return Copies::Refused(Refusal::SheetEnds);
+            return Copies::Refused(Fault {
+                refusal: Refusal::SheetEnds,
+                place: s.len(),
+            });
         }
         let d = wide(s[p]);
         if high < d {
             return not_disk(s, p, high);
         }
         if d < floor {
-            return Copies::Refused(Refusal::NotRising);
+            return Copies::Refused(Fault {
+                refusal: Refusal::NotRising,
+                place: p,
+            });
         }
         m = mask::put(m, d as usize);
         floor = d + 1;
@@ -106,23 +116,15 @@ fn one_block(s: &[u8], at: usize, high: u32) -> Copies
     requires { ⌜ high < disksMost ⌝ }
     ensures { λ r. ⌜ toldCopies r ≡ block high (now (s .entry)) at ⌝ }
 {
-    match field::number(s, at) {
-        Field::Got(k, next) => {
-            if k == 0 {
-                return Copies::Refused(Refusal::NoCopy);
-            }
-            if COPIES < k {
-                return Copies::Refused(Refusal::OutOfRange);
-            }
-            gather(s, next, k, high)
-        }
+    match field::between(s, at, 1, COPIES, Refusal::NoCopy, Refusal::OutOfRange) {
+        Field::Got(k, next) => gather(s, next, k, high),
         Field::Refused(e) => Copies::Refused(e),
     }
 }
 
 // A refusal, with all copies 0.
-fn refuse(e: Refusal) -> Request
-    ensures { λ r. ⌜ ((len : ℕ) → Told len (refused (numberOf e)) r) ⌝ }
+fn refuse(e: Fault) -> Request
+    ensures { λ r. ⌜ ((len : ℕ) → Told len (refused (noteOf e)) r) ⌝ }
 {
     let copies = [0u64; BLOCKS];
     Request {
@@ -169,7 +171,10 @@ fn heading(s: &[u8], unit: u32, tenancy: u32, disks: u32) -> Field
         return found;
     };
     if disks == 0 {
-        return Field::Refused(Refusal::NoSettings);
+        return Field::Refused(Fault {
+            refusal: Refusal::NoSettings,
+            place: at,
+        });
     }
     field::inside(s, at, 0, BLOCKS as u32, Refusal::OutOfRange)
 }
@@ -195,14 +200,23 @@ fn size(copies: &[u64], disks: usize) -> Written
     while i < copies.len() {
         let m = copies[i];
         if m == 0 {
-            return Written::Refused(Refusal::NoCopy);
+            return Written::Refused(Fault {
+                refusal: Refusal::NoCopy,
+                place: 0,
+            });
         }
         let bits = mask::count(m);
         if COPIES < bits {
-            return Written::Refused(Refusal::OutOfRange);
+            return Written::Refused(Fault {
+                refusal: Refusal::OutOfRange,
+                place: 0,
+            });
         }
         if mask::without(m, known) != 0 {
-            return Written::Refused(Refusal::OutOfRange);
+            return Written::Refused(Fault {
+                refusal: Refusal::BadIndex,
+                place: 0,
+            });
         }
         total += 1 + bits as usize;
         i += 1;
@@ -265,7 +279,10 @@ fn send(unit: u32, tenancy: u32, copies: &[u64], n: usize, out: &mut [u8]) -> Wr
     let q = copies.len() as u32;
     let length = 1 + number::width(unit) + number::width(tenancy) + number::width(q) + n;
     if out.len() < length {
-        return Written::Refused(Refusal::NoRoom);
+        return Written::Refused(Fault {
+            refusal: Refusal::NoRoom,
+            place: length,
+        });
     }
     let p = put_heading(unit, tenancy, q, out);
     let e = put_blocks(copies, out, p);
@@ -277,16 +294,28 @@ pub fn write(unit: u32, tenancy: u32, disks: u32, copies: &[u64], out: &mut [u8]
     ensures { λ r. ⌜ Sent (requestDraft unit tenancy disks (now (copies .entry))) (now (out .entry)) r (now (out .exit)) ⌝ }
 {
     if tenancy == 0 {
-        return Written::Refused(Refusal::OutOfRange);
+        return Written::Refused(Fault {
+            refusal: Refusal::OutOfRange,
+            place: 0,
+        });
     }
     if disks == 0 {
-        return Written::Refused(Refusal::OutOfRange);
+        return Written::Refused(Fault {
+            refusal: Refusal::OutOfRange,
+            place: 0,
+        });
     }
     if (DISKS as u32) < disks {
-        return Written::Refused(Refusal::OutOfRange);
+        return Written::Refused(Fault {
+            refusal: Refusal::OutOfRange,
+            place: 0,
+        });
     }
     if BLOCKS < copies.len() {
-        return Written::Refused(Refusal::OutOfRange);
+        return Written::Refused(Fault {
+            refusal: Refusal::OutOfRange,
+            place: 0,
+        });
     }
     match size(copies, disks as usize) {
         Written::Length(n) => send(unit, tenancy, copies, n, out),

@@ -14,12 +14,14 @@ use Rattle.field.proofs.Refusal.{the-type}
 use Rattle.field.specs.declared.Refusal.{Refusal}
 use Rattle.field.specs.declared.Refusal.the-variants.{SheetEnds, BadNumber, WrongKind, WrongUnit, WrongTenancy, OutOfRange, NoCopy}
 use Rattle.field.specs.declared.Refusal.the-variants.{NotRising, BytesFollow, NoSettings, NoRoom, Rented, NotAbove, NotTheTenant}
+use Rattle.field.specs.declared.Refusal.the-variants.{BadAmount, BadIndex}
 use Rattle.field.specs.Refusal.{numberOf}
+use Rattle.field.specs.Sheet.{note}
 use Rattle.service.specs.Shelf.{waits}
 
 -- the places of all refusals but the first
 abbrev pub others : List ℕ
-others = 1 ∷ 2 ∷ 3 ∷ 4 ∷ 5 ∷ 6 ∷ 7 ∷ 8 ∷ 9 ∷ 10 ∷ 11 ∷ 12 ∷ 13 ∷ []
+others = 1 ∷ 2 ∷ 3 ∷ 4 ∷ 5 ∷ 6 ∷ 7 ∷ 8 ∷ 9 ∷ 10 ∷ 11 ∷ 12 ∷ 13 ∷ 14 ∷ 15 ∷ []
 
 -- all above 0
 above : List ℕ → Bool
@@ -33,23 +35,25 @@ one-above (k ∷ []) x a h = omega (arith, ltb-true 0 k (both (ltb 0 k) true a .
 one-above (k ∷ j ∷ ks) x a (inl h) = omega (arith, ltb-true 0 k (both (ltb 0 k) _ a .0))
 one-above (k ∷ j ∷ ks) x a (inr h) = one-above (j ∷ ks) x (both (ltb 0 k) _ a .1) h
 
-tagged : (e : Refusal) (ended : Bool) → 0 < tagOf the-type e → false ≡ waits ended (numberOf e)
+tagged : (e : Refusal) (p : ℕ) (ended : Bool) → 0 < tagOf the-type e → false ≡ waits ended (note (numberOf e) p)
 unfolding waits
-tagged SheetEnds ended h = absurd (omega arith)
-tagged BadNumber ended h = refl
-tagged WrongKind ended h = refl
-tagged WrongUnit ended h = refl
-tagged WrongTenancy ended h = refl
-tagged OutOfRange ended h = refl
-tagged NoCopy ended h = refl
-tagged NotRising ended h = refl
-tagged BytesFollow ended h = refl
-tagged NoSettings ended h = refl
-tagged NoRoom ended h = refl
-tagged Rented ended h = refl
-tagged NotAbove ended h = refl
-tagged NotTheTenant ended h = refl
+tagged SheetEnds p ended h = absurd (omega arith)
+tagged BadNumber p ended h = refl
+tagged WrongKind p ended h = refl
+tagged WrongUnit p ended h = refl
+tagged WrongTenancy p ended h = refl
+tagged OutOfRange p ended h = refl
+tagged NoCopy p ended h = refl
+tagged NotRising p ended h = refl
+tagged BytesFollow p ended h = refl
+tagged NoSettings p ended h = refl
+tagged NoRoom p ended h = refl
+tagged Rented p ended h = refl
+tagged NotAbove p ended h = refl
+tagged NotTheTenant p ended h = refl
+tagged BadAmount p ended h = refl
+tagged BadIndex p ended h = refl
 
-pub waits-not : (e : Refusal) (ended : Bool) → OneOf others (tagOf the-type e) → false ≡ waits ended (numberOf e)
+pub waits-not : (e : Refusal) (p : ℕ) (ended : Bool) → OneOf others (tagOf the-type e) → false ≡ waits ended (note (numberOf e) p)
 unfolding above
-waits-not e ended h = tagged e ended (one-above others (tagOf the-type e) refl h)
+waits-not e p ended h = tagged e p ended (one-above others (tagOf the-type e) refl h)

@@ -10,13 +10,13 @@ use lib.ListN.{length, take, drop, replicate, length-append}
 use lib.Seq.{take-append-le}
 use Rattle.basics.specs.Choice.{pick}
 use Rattle.basics.proofs.Choice.{pick-true, pick-false}
-use Rattle.field.specs.declared.Refusal.{Refusal}
+use Rattle.field.specs.declared.Fault.{Fault}
 use Rattle.field.specs.declared.Written.the-variants.{Length, Refused as NotWritten}
 use Rattle.field.specs.declared.Written.{Written}
 use Rattle.field.specs.Field.{number}
-use Rattle.field.specs.Refusal.{numberOf}
+use Rattle.field.specs.Refusal.{numberOf, noteOf}
 use Rattle.field.specs.Send.{toldWritten}
-use Rattle.field.specs.Sheet.{Out, got, refused, pure}
+use Rattle.field.specs.Sheet.{Note, Out, got, refused, pure}
 use Rattle.field.proofs.Sheet.{next, stops}
 use Rattle.field.specs.declared.Verdict as declared
 use Rattle.field.specs.declared.Verdict.the-variants.{Accepted, Refused as Denied}
@@ -36,7 +36,7 @@ use Rattle.stream.specs.declared.Call.the-variants.{Rent, Settings, Request, Re
 use Rattle.stream.specs.Call.{roomMost, Asked, rents, sets, requests, returns, asked, toldCall, Held, Framed}
 use Rattle.stream.specs.Frame.{part, Within}
 use Rattle.line.specs.declared.Word.{Word}
-use Rattle.line.specs.declared.Word.the-variants.{Rented, Set, Returned, Refused, Stopped}
+use Rattle.line.specs.declared.Word.the-variants.{Rented, Set, Returned, RefusedAt, Stopped}
 use Rattle.line.specs.Line.{spoken, sheetLine}
 use Rattle.line.specs.Printed.{Printed}
 use Rattle.line.proofs.Adding.{no-line, printed-unique}
@@ -56,8 +56,8 @@ module _ {out after : List ℕ} {n : ℕ} where
   unfolding verdictLine toldVerdict
   verdict-taken w a q p = printed-same (ap (λ (x : declared.Verdict). verdictLine w (toldVerdict x)) (sym q)) p
 
-  pub verdict-denied : (w : Word) (a : declared.Verdict) (e : Refusal) → a ≡ Denied e → Printed (spoken (Refused (numberOf e))) out n after
-      → Printed (verdictLine w (toldVerdict a)) out n after
+  pub verdict-denied : (w : Word) (a : declared.Verdict) (e : Fault) → a ≡ Denied e
+      → Printed (spoken (RefusedAt (numberOf (e .refusal)) (e .place))) out n after → Printed (verdictLine w (toldVerdict a)) out n after
   unfolding verdictLine toldVerdict
   verdict-denied w a e q p = printed-same (ap (λ (x : declared.Verdict). verdictLine w (toldVerdict x)) (sym q)) p
 
@@ -105,8 +105,8 @@ module _ (u : Unit) (room : ℕ) (s out : List ℕ) (m : out ≡ replicate room 
         let w : k ≤ length after = omega (arith, replied-within a q) in
         plans (Length k) q (printed-same (ap sheetLine (take-append-le k after zs w)) p)
 
-    pub request-kept : (e : Refusal) → r .answer ≡ NotWritten e → Printed (spoken (Refused (numberOf e))) buf n buf′
-        → Plans u room s buf n buf′
+    pub request-kept : (e : Fault) → r .answer ≡ NotWritten e
+        → Printed (spoken (RefusedAt (numberOf (e .refusal)) (e .place))) buf n buf′ → Plans u room s buf n buf′
     unfolding lineOf toldWritten
     request-kept e q p = plans (NotWritten e) q p
 
@@ -116,7 +116,7 @@ lent room most h = take-zeros room most h
 
 -- ---- nothing whole is there
 
-module _ (sh : Shelf) (s : List ℕ) (ended : Bool) (n : ℕ) where
+module _ (sh : Shelf) (s : List ℕ) (ended : Bool) (n : Note) where
   pub turned-wants : (out : List ℕ) → waits ended n ≡ true
       → Turned sh s ended (refused n) out (record { next = Wants; used = 0; length = 0; shelf = sh }) out
   unfolding Comes
@@ -133,10 +133,11 @@ module _ (sh : Shelf) (s : List ℕ) (ended : Bool) (n : ℕ) where
     unfolding lastLine
     turned-clean out h = done [] (sym (pick-true _ _ h)) (no-line out)
 
-    pub turned-stopped : {out after : List ℕ} {k : ℕ} → (sh .opened && eqb (length s) 0) ≡ false → Printed (spoken (Stopped n)) out k after
+    pub turned-stopped : {out after : List ℕ} {k : ℕ} → (sh .opened && eqb (length s) 0) ≡ false
+        → Printed (spoken (Stopped (n .number))) out k after
         → Turned sh s ended (refused n) out (record { next = Last; used = 0; length = k; shelf = sh }) after
     unfolding lastLine
-    turned-stopped h p = done (spoken (Stopped n)) (sym (pick-false _ _ h)) p
+    turned-stopped h p = done (spoken (Stopped (n .number))) (sym (pick-false _ _ h)) p
 
 -- ---- the unit's number
 
@@ -152,7 +153,7 @@ pub due-opens : (s : List ℕ) (n e : ℕ) → number s 0 ≡ got n e → due fa
 unfolding due pure
 due-opens s n e h = next number _ s 0 h
 
-pub due-closed : (s : List ℕ) (n : ℕ) → number s 0 ≡ refused n → due false s 0 ≡ refused n
+pub due-closed : (s : List ℕ) (n : Note) → number s 0 ≡ refused n → due false s 0 ≡ refused n
 unfolding due
 due-closed s n h = stops number _ s 0 h
 
@@ -160,7 +161,7 @@ pub due-asks : (s : List ℕ) (a : Asked) (e : ℕ) → asked s 0 ≡ got a e �
 unfolding due pure
 due-asks s a e h = next asked _ s 0 h
 
-pub due-stops : (s : List ℕ) (n : ℕ) → asked s 0 ≡ refused n → due true s 0 ≡ refused n
+pub due-stops : (s : List ℕ) (n : Note) → asked s 0 ≡ refused n → due true s 0 ≡ refused n
 unfolding due
 due-stops s n h = stops asked _ s 0 h
 
@@ -212,10 +213,10 @@ module _ {sh : Shelf} {s : List ℕ} {r : Call} {ended : Bool} (w : Framed s (as
     turned-set from q h p =
         turned-said sh s ended d e (sets (part s from e)) Set refl (asked-as w q) p (set-does (sh .unit) (part s from e) d h)
 
-  pub turned-unserved : (e : Refusal) → r ≡ NoCall e → Turned sh s ended (refused (numberOf e)) out t after
+  pub turned-unserved : (e : Fault) → r ≡ NoCall e → Turned sh s ended (refused (noteOf e)) out t after
       → Turned sh s ended (due true s 0) out t after
   unfolding toldCall
-  turned-unserved e q v = turned-same (due-stops s (numberOf e) (asked-as w q)) v
+  turned-unserved e q v = turned-same (due-stops s (noteOf e) (asked-as w q)) v
 
 pub turned-request : (sh : Shelf) {s : List ℕ} {r : Call} (ended : Bool) → Framed s (asked s 0) r
     → {out after : List ℕ} {n : ℕ} (room from e : ℕ)

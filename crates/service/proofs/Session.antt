@@ -14,7 +14,7 @@ use lib.Seq.{drop-append-le}
 use Rattle.basics.specs.Choice.{pick}
 use Rattle.basics.proofs.Choice.{pick-true, pick-false}
 use Rattle.basics.proofs.Tests.{by-cases}
-use Rattle.field.specs.Sheet.{Out, got, refused}
+use Rattle.field.specs.Sheet.{Note, Out, got, refused}
 use Rattle.unit.specs.Sound.{Sound}
 use Rattle.unit.proofs.Sound.{sound-new}
 use Rattle.stream.proofs.Steady.{steady-got, steady-refused}
@@ -41,7 +41,7 @@ whole-more {sh} {s} r w =
       rest = ap (λ (x : List ℕ). x ++ r) (w .rest) ∙ sym (drop-append-le (w .end) s r (m .1));
     }
 
-ends-more : {sh : Shelf} {s text : List ℕ} (r : List ℕ) (e : Ends sh s text) → (e .why ≡ 1 → ⊥) → Ends sh (s ++ r) text
+ends-more : {sh : Shelf} {s text : List ℕ} (r : List ℕ) (e : Ends sh s text) → (e .why .number ≡ 1 → ⊥) → Ends sh (s ++ r) text
 ends-more {sh} {s} r e z =
     record {
       why = e .why;
@@ -51,7 +51,7 @@ ends-more {sh} {s} r e z =
 
 -- the number with which the stream stops
 pub why : {sh : Shelf} {s text : List ℕ} → Says sh s text → ℕ
-why (last e) = e .why
+why (last e) = e .why .number
 why (next w p) = why p
 
 pub says-more : {sh : Shelf} {s text : List ℕ} (r : List ℕ) (w : Says sh s text) → (why w ≡ 1 → ⊥) → Says sh (s ++ r) text
@@ -135,13 +135,13 @@ turns-as : (sh : Shelf) (s : List ℕ) (ended : Bool) (n : Next) (used : ℕ) (l
     → due (sh .opened) s 0 ≡ o → Comes sh s ended o n used line after → Turns sh s ended n used line after
 turns-as sh s ended n used line after h c = record { comes = subst (λ (x : Out Due). Comes sh s ended x n used line after) (sym h) c }
 
-waits-ended : (n : ℕ) → waits true n ≡ false
+waits-ended : (n : Note) → waits true n ≡ false
 unfolding waits
-waits-ended n = by-cases (eqb n 1) (λ t. ap (λ (b : Bool). b && false) t) (λ f. ap (λ (b : Bool). b && false) f)
+waits-ended n = by-cases (eqb (n .number) 1) (λ t. ap (λ (b : Bool). b && false) t) (λ f. ap (λ (b : Bool). b && false) f)
 
 module _ (sh : Shelf) (s : List ℕ) (h : Sound (sh .unit)) where
   -- nothing whole stands there
-  module _ (ended : Bool) (n : ℕ) (q : due (sh .opened) s 0 ≡ refused n) where
+  module _ (ended : Bool) (n : Note) (q : due (sh .opened) s 0 ≡ refused n) where
     wanting : waits ended n ≡ true → Turns sh s ended Wants 0 [] sh
     unfolding Comes
     wanting t = turns-as sh s ended Wants 0 [] sh q (sym (pick-true _ _ t), refl, sym (pick-true _ _ t), refl)
@@ -160,7 +160,7 @@ module _ (sh : Shelf) (s : List ℕ) (h : Sound (sh .unit)) where
         (omega (arith, length-drop e s, due-within (sh .opened) s q, due-past (sh .opened) s q)) in
         (w .0 ++ f .0, served (turns-as sh s ended Served e (w .0) (w .1) q (refl, refl, w .2)) (f .1))
 
-    on-refused : (ended : Bool) (pieces : List (List ℕ)) (n : ℕ) → due (sh .opened) s 0 ≡ refused n → (ended ≡ true → pieces ≡ [])
+    on-refused : (ended : Bool) (pieces : List (List ℕ)) (n : Note) → due (sh .opened) s 0 ≡ refused n → (ended ≡ true → pieces ≡ [])
         → size s ended pieces < suc k → (text : List ℕ) × Fed sh s ended pieces text
     unfolding size flatten pick
     on-refused true pieces n q z l =

@@ -5,7 +5,7 @@
 --     serves-exists, serves-sound     what is due can be done, and keeps a sound unit sound
 --     turn-unique               there is no second answer
 use mathlib.Core.Path.{_≡_, refl, sym, ap, _∙_, subst}
-use mathlib.Core.Bool.{Bool, true, false, not}
+use mathlib.Core.Bool.{Bool, true, false, _&&_, not}
 use mathlib.Core.List.{List, [], _∷_, _++_}
 use Prim.Native.Nat.{ℕ, _≤_, _<_}
 use native.Mathlib.Omega.{arith}
@@ -17,7 +17,7 @@ use Rattle.basics.proofs.Choice.{pick-true, pick-false}
 use Rattle.basics.proofs.Tests.{both}
 use Rattle.number.specs.Decode.{decode}
 use Rattle.field.specs.Field.{number, taken}
-use Rattle.field.specs.Sheet.{Out, got, refused, andThen, _>>=_, pure}
+use Rattle.field.specs.Sheet.{Note, note, Out, got, refused, andThen, _>>=_, pure}
 use Rattle.unit.specs.declared.Unit.{Unit}
 use Rattle.hire.specs.Calls.{Call, Reply, Does, Runs, next as replies}
 use Rattle.unit.specs.Sound.{Sound}
@@ -51,15 +51,15 @@ due-steady false = steady-bind number-steady (λ n. steady-pure (opens n))
 pub due-within : (opened : Bool) (s : List ℕ) {d : Due} {e : ℕ} → due opened s 0 ≡ got d e → e ≤ length s
 due-within opened s h = steady-got (due-steady opened) s [] h .1
 
-bind-refused : {A : Type 0} (o : Out A) (f : A → Due) (n : ℕ) → andThen o (λ a e. got (f a) e) ≡ refused n → o ≡ refused n
+bind-refused : {A : Type 0} (o : Out A) (f : A → Due) (n : Note) → andThen o (λ a e. got (f a) e) ≡ refused n → o ≡ refused n
 unfolding andThen
 bind-refused (got a e) f n q = absurd (let z : _≡_ {A = ℕ} 0 1 = cc in omega arith)
 bind-refused (refused m) f n q = let e : m ≡ n = cc in ap refused e
 
-pub due-longest : (opened : Bool) (s : List ℕ) → due opened s 0 ≡ refused 1 → length s < callMost
+pub due-longest : (opened : Bool) (s : List ℕ) (n : Note) → due opened s 0 ≡ refused n → n .number ≡ 1 → length s < callMost
 unfolding due _>>=_ pure
-due-longest true s q = asked-longest s (bind-refused (asked s 0) asks 1 q)
-due-longest false s q = omega (arith, number-longest s (bind-refused (number s 0) opens 1 q))
+due-longest true s n q one = asked-longest s (bind-refused (asked s 0) asks n q) one
+due-longest false s n q one = omega (arith, number-longest s (bind-refused (number s 0) opens n q) one)
 
 -- what is due uses at least one byte
 pub due-past : (opened : Bool) (s : List ℕ) {d : Due} {e : ℕ} → due opened s 0 ≡ got d e → 1 ≤ e
@@ -68,20 +68,23 @@ due-past true s {d} {e} h = subst (Past 1) h (then-past 1 (asked s 0) (λ a n. g
 due-past false s {d} {e} h = subst (Past 1) h (then-past 1 (number s 0) (λ m n. got (opens m) n) (number-past s 0) (λ m n. omega arith))
 
 -- where nothing stands there, more bytes are due
-due-none : (opened : Bool) → due opened [] 0 ≡ refused 1
-unfolding due _>>=_ andThen asked number taken decode
+due-none : (opened : Bool) → due opened [] 0 ≡ refused (note 1 0)
+unfolding due _>>=_ andThen asked number taken decode pick
 due-none true = refl
 due-none false = refl
 
-some-line : (opened : Bool) (s : List ℕ) (n : ℕ) → 0 < length s → lastLine opened s n ≡ spoken (Stopped n)
+some-line : (opened : Bool) (s : List ℕ) (n : Note) → 0 < length s → lastLine opened s n ≡ spoken (Stopped (n .number))
 unfolding lastLine
 some-line true s n l = pick-false _ _ (ne-eqb (length s) 0 (λ q. omega arith))
 some-line false s n l = pick-false _ _ refl
 
 -- a stream that is damaged stays so, with the same line
-pub stopped-more : (opened : Bool) (s r : List ℕ) (n : ℕ) → due opened s 0 ≡ refused n → (n ≡ 1 → ⊥)
+pub stopped-more : (opened : Bool) (s r : List ℕ) (n : Note) → due opened s 0 ≡ refused n → (n .number ≡ 1 → ⊥)
     → lastLine opened s n ≡ lastLine opened (s ++ r) n
-stopped-more opened [] r n h z = absurd (z (let q : refused n ≡ refused 1 = sym h ∙ due-none opened in cc))
+stopped-more opened [] r n h z =
+    let q : refused n ≡ refused (note 1 0) = sym h ∙ due-none opened in
+    let m : n ≡ note 1 0 = cc in
+    absurd (z (ap (λ (x : Note). x .number) m))
 stopped-more opened (b ∷ s) r n h z = some-line opened (b ∷ s) n (omega arith) ∙ sym (some-line opened (b ∷ s ++ r) n (omega arith))
 
 -- ---- what a turn leaves
@@ -95,7 +98,7 @@ pub record Waiting (sh : Shelf) (s : List ℕ) (ended : Bool) (line : List ℕ) 
 
 -- it is the last: where it stops with 1 the input has ended
 abbrev Final : Shelf → List ℕ → Bool → List ℕ → Type 0
-Final sh s ended line = (e : Ends sh s line) × (e .why ≡ 1 → ended ≡ false → ⊥)
+Final sh s ended line = (e : Ends sh s line) × (e .why .number ≡ 1 → ended ≡ false → ⊥)
 
 not-served : (b : Bool) → Served ≡ pick b Wants Last → ⊥
 unfolding pick
@@ -131,12 +134,12 @@ module _ (sh : Shelf) (s : List ℕ) (ended : Bool) (used : ℕ) (line : List �
   wants-at (got d e) h c = absurd (let q : Wants ≡ Served = c .0 in let z : _≡_ {A = ℕ} 0 1 = cc in omega arith)
   wants-at (refused n) h c =
       let t : waits ended n ≡ true = is-wants (waits ended n) (c .0) in
-      let p = both (eqb n 1) (not ended) t in
+      let p = both (eqb (n .number) 1) (not ended) t in
       record {
         silent = c .2 ∙ pick-true _ _ t;
         same = c .3;
         going = not-true ended (p .1);
-        few = due-longest (sh .opened) s (h ∙ ap refused (eqb-true n 1 (p .0)));
+        few = due-longest (sh .opened) s n h (eqb-true (n .number) 1 (p .0));
       }
 
   last-at : (o : Out Due) → due (sh .opened) s 0 ≡ o → Comes sh s ended o Last used line after → Final sh s ended line
@@ -146,7 +149,7 @@ module _ (sh : Shelf) (s : List ℕ) (ended : Bool) (used : ℕ) (line : List �
       let f : waits ended n ≡ false = is-last (waits ended n) (c .0) in (
         record { why = n; read = h; line = c .2 ∙ pick-false _ _ f },
         λ one going.
-            let x : waits ended n ≡ waits false 1 = ap (λ (b : Bool). waits b n) going ∙ ap (waits false) one in
+            let x : waits ended n ≡ true = ap (λ (b : Bool). waits b n) going ∙ ap (λ (m : ℕ). eqb m 1 && true) one in
             let y : true ≡ false = sym x ∙ f in
             let z : _≡_ {A = ℕ} 0 1 = cc in omega arith,
       )

@@ -12,7 +12,7 @@ use Rattle.unit.specs.Life.{Verdict, accepted}
 use Rattle.unit.specs.Life.{refused as denied}
 use Rattle.unit.specs.Told.{toldVerdict}
 use Rattle.line.specs.declared.Word.{Word}
-use Rattle.line.specs.declared.Word.the-variants.{Refused}
+use Rattle.line.specs.declared.Word.the-variants.{RefusedAt}
 use Rattle.line.specs.Line.{spoken}
 use Rattle.line.specs.Printed.{Printed}
 use Rattle.stream.specs.Call.{requests}
@@ -22,7 +22,7 @@ use Rattle.service.specs.Shelf.{shelfOf, callOf, lineOf}
 
 unfoldable pub verdictLine : Word → Verdict → List ℕ
 verdictLine w accepted = spoken w
-verdictLine w (denied n) = spoken (Refused n)
+verdictLine w (denied n) = spoken (RefusedAt (n .number) (n .place))
 
 pub record Answers (w : Word) (d : Done) (used : ℕ) (out : List ℕ) (r : Turn) (after : List ℕ) : Type 0 where
   pub next : r .next ≡ Served

@@ -10,7 +10,7 @@ use mathlib.Core.Bool.{Bool, true, false}
 use mathlib.Core.Path.{_≡_}
 use mathlib.Core.List.{List, [], _∷_, _++_}
 use lib.ListN.{drop}
-use Rattle.field.specs.Sheet.{got, refused}
+use Rattle.field.specs.Sheet.{Note, got, refused}
 use Rattle.service.specs.declared.Next.{Next}
 use Rattle.service.specs.declared.Next.the-variants.{Served, Wants, Done}
 use Rattle.service.specs.declared.Shelf.{Shelf}
@@ -24,7 +24,7 @@ pub record Whole (sh : Shelf) (s line : List ℕ) (after : Shelf) (left : List �
   pub rest : left ≡ drop end s
 
 pub record Ends (sh : Shelf) (s last : List ℕ) : Type 0 where
-  pub why : ℕ
+  pub why : Note
   pub read : due (sh .opened) s 0 ≡ refused why
   pub line : last ≡ lastLine (sh .opened) s why
 

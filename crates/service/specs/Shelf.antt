@@ -12,12 +12,12 @@ use lib.Dec.{eqb}
 use lib.ListN.{length, take, replicate}
 use Rattle.basics.specs.Choice.{pick}
 use Rattle.field.specs.Field.{number}
-use Rattle.field.specs.Sheet.{Out, got, refused, Parser, _>>=_, pure}
+use Rattle.field.specs.Sheet.{Note, Out, got, refused, Parser, _>>=_, pure}
 use Rattle.unit.specs.declared.Unit.{Unit}
 use Rattle.hire.specs.Calls.{Call, renting, setting, asking, returning, Reply, said, planned, Does}
 use Rattle.unit.specs.Life.{accepted, refused as denied}
 use Rattle.unit.specs.Unit.{newUnit}
-use Rattle.line.specs.declared.Word.the-variants.{Rented, Set, Returned, Refused, Stopped}
+use Rattle.line.specs.declared.Word.the-variants.{Rented, Set, Returned, RefusedAt, Stopped}
 use Rattle.line.specs.Line.{spoken, sheetLine}
 use Rattle.line.specs.Printed.{Printed}
 use Rattle.stream.specs.Call.{Asked, rents, sets, requests, returns, asked}
@@ -60,12 +60,12 @@ acceptedLine (sets s) = spoken Set
 acceptedLine (requests room s) = []
 acceptedLine (returns t) = spoken Returned
 
--- a word, the plan sheet in hex, or the refusal
+-- a word, the plan sheet in hex, or the refusal with its place
 unfoldable pub lineOf : Asked → Reply → List ℕ
 lineOf a (said accepted) = acceptedLine a
-lineOf a (said (denied n)) = spoken (Refused n)
+lineOf a (said (denied n)) = spoken (RefusedAt (n .number) (n .place))
 lineOf a (planned (got x n) bytes) = sheetLine (take n bytes)
-lineOf a (planned (refused n) bytes) = spoken (Refused n)
+lineOf a (planned (refused n) bytes) = spoken (RefusedAt (n .number) (n .place))
 
 -- the unit's number has no line
 unfoldable pub Serves : Shelf → Due → List ℕ → Shelf → Type 0
@@ -73,12 +73,12 @@ Serves sh (opens n) line after = (line ≡ []) × (after ≡ shelfOf (newUnit n)
 Serves sh (asks a) line after = (r : Reply) × (u : Unit) × Does (sh .unit) (callOf a) r u × (line ≡ lineOf a r) × (after ≡ shelfOf u)
 
 -- none where the input ends between two calls; else the stream is damaged, by 1 where it is not whole
-unfoldable pub lastLine : Bool → List ℕ → ℕ → List ℕ
-lastLine opened s n = pick (opened && eqb (length s) 0) [] (spoken (Stopped n))
+unfoldable pub lastLine : Bool → List ℕ → Note → List ℕ
+lastLine opened s n = pick (opened && eqb (length s) 0) [] (spoken (Stopped (n .number)))
 
 -- what was refused with 1 waits for more bytes, unless the input has ended
-unfoldable pub waits : Bool → ℕ → Bool
-waits ended n = eqb n 1 && not ended
+unfoldable pub waits : Bool → Note → Bool
+waits ended n = eqb (n .number) 1 && not ended
 
 unfoldable pub Comes : Shelf → List ℕ → Bool → Out Due → Next → ℕ → List ℕ → Shelf → Type 0
 Comes sh s ended (got d e) next used line after = (next ≡ Served) × (used ≡ e) × Serves sh d line after

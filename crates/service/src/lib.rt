@@ -1,11 +1,12 @@
 // The shelf's service: a turn of the shelf from the start of what has been read so far, done by the unit.
+use field::Fault;
 use field::Field;
 use field::Refusal;
 use field::Verdict;
 use field::Written;
 use line::Line;
 use line::Word;
-use line::refuse;
+use line::refuse_at;
 use line::say;
 use stream::Call;
 use stream::ROOM_MOST;
@@ -17,7 +18,7 @@ ghost use mathlib.Core.Path.{_≡_};
 ghost use lib.Dec.{eqb};
 ghost use lib.ListN.{length};
 ghost use Rattle.stream.specs.Call.{roomMost};
-ghost use Rattle.field.specs.Refusal.{numberOf};
+ghost use Rattle.field.specs.Refusal.{noteOf};
 ghost use Rattle.field.specs.Sheet.{refused};
 ghost use Rattle.unit.specs.Sound.{Sound};
 ghost use Rattle.unit.specs.Told.{toldVerdict};
@@ -65,7 +66,7 @@ fn verdict(w: Word, answer: Verdict, line: &mut Line) -> usize
 {
     match answer {
         Verdict::Accepted => say(w, line),
-        Verdict::Refused(e) => refuse(e, line),
+        Verdict::Refused(e) => refuse_at(e, line),
     }
 }
 
@@ -94,15 +95,16 @@ fn request(u: Unit, room: usize, sheet: &[u8], line: &mut Line) -> usize
     let answer = planned.answer;
     match answer {
         Written::Length(n) => line::sheet_line(&out[..n], line),
-        Written::Refused(e) => refuse(e, line),
+        Written::Refused(e) => refuse_at(e, line),
     }
 }
 
 // Whether more bytes may complete what was refused.
-fn waits(e: Refusal, ended: bool) -> bool
-    ensures { λ r. ⌜ r ≡ waitsOf ended (numberOf e) ⌝ }
+fn waits(e: Fault, ended: bool) -> bool
+    ensures { λ r. ⌜ r ≡ waitsOf ended (noteOf e) ⌝ }
 {
-    match e {
+    let why = e.refusal;
+    match why {
         Refusal::SheetEnds => !ended,
         _ => false,
     }
@@ -116,8 +118,8 @@ fn between_calls(opened: bool, s: &[u8]) -> bool
 }
 
 // Nothing whole is there. More bytes may complete it, if any can come; else the shelf is done, with a line if the stream is damaged.
-fn unserved(shelf: Shelf, s: &[u8], e: Refusal, ended: bool, line: &mut Line) -> Turn
-    ensures { λ r. ⌜ Turned shelf (now (s .entry)) ended (refused (numberOf e)) (now (line .entry)) r (now (line .exit)) ⌝ }
+fn unserved(shelf: Shelf, s: &[u8], e: Fault, ended: bool, line: &mut Line) -> Turn
+    ensures { λ r. ⌜ Turned shelf (now (s .entry)) ended (refused (noteOf e)) (now (line .entry)) r (now (line .exit)) ⌝ }
 {
     if waits(e, ended) {
         return Turn {
@@ -135,7 +137,8 @@ fn unserved(shelf: Shelf, s: &[u8], e: Refusal, ended: bool, line: &mut Line) ->
             shelf,
         };
     }
-    let length = say(Word::Stopped(field::number_of(e)), line);
+    let why = e.refusal;
+    let length = say(Word::Stopped(field::number_of(why)), line);
     Turn {
         next: Next::Done,
         used: 0,

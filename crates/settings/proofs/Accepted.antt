@@ -55,12 +55,12 @@ row-steps s at r e h =
 row-good : (s : List ℕ) (at : ℕ) (r : Row) (e : ℕ) → row s at ≡ got r e → Good r
 row-good s at r e h =
     let w = row-steps s at r e h in
-    let a = between-range 1 costMost 6 6 s at (w .cost-got) in
+    let a = between-range 1 costMost 15 15 s at (w .cost-got) in
     range-in r (record {
       cost-low = a .0;
       cost-high = a .1;
-      load-high = between-range 0 loadMost 6 6 s (w .second) (w .load-got) .1;
-      delay-high = between-range 0 delayMost 6 6 s (w .third) (w .delay-got) .1;
+      load-high = between-range 0 loadMost 15 15 s (w .second) (w .load-got) .1;
+      delay-high = between-range 0 delayMost 15 15 s (w .third) (w .delay-got) .1;
     })
 
 -- ---- the fields of a sheet

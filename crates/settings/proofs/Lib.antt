@@ -5,3 +5,4 @@ pub mod Accepted
 pub mod RoundTrip
 pub mod Longest
 pub mod Unique
+pub mod Placed

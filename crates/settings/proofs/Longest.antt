@@ -25,7 +25,7 @@ use Rattle.settings.proofs.RoundTrip.{write-accepted}
 pub longest-written : (unit t : ℕ) (cs ls ds bs : List ℕ) → settingsDraft unit t cs ls ds ≡ sheet bs → length bs ≤ settingsMost
 longest-written unit t cs ls ds bs h =
     draft-either unit t cs ls ds
-    (λ n. let g : none 6 ≡ sheet bs = sym n ∙ h in absurd (let z : _≡_ {A = ℕ} 0 1 = cc in omega arith))
+    (λ e _ n. let g : none e ≡ sheet bs = sym n ∙ h in absurd (let z : _≡_ {A = ℕ} 0 1 = cc in omega arith))
     (λ w.
     let g : sheet bs ≡ sheet (sheetBytes unit t (rowsOf cs ls ds)) = sym h ∙ w .is in
     let same : bs ≡ sheetBytes unit t (rowsOf cs ls ds) = cc in

@@ -11,10 +11,10 @@ use lib.ListN.{length, set, length-append}
 use Rattle.basics.specs.Limits.{disksMost}
 use Rattle.basics.specs.Padded.{padTo}
 use Rattle.basics.proofs.Padded.{pad-set}
-use Rattle.field.specs.declared.Refusal.{Refusal}
+use Rattle.field.specs.declared.Fault.{Fault}
 use Rattle.field.specs.declared.Verdict.the-variants.{Accepted}
-use Rattle.field.specs.Refusal.{numberOf}
-use Rattle.field.specs.Sheet.{Out, got, refused, pure, times}
+use Rattle.field.specs.Refusal.{noteOf}
+use Rattle.field.specs.Sheet.{Note, Out, got, refused, pure, times}
 use Rattle.field.specs.Field.{opening, inside, end, whole}
 use Rattle.field.proofs.Sheet.{next, then, stops, halts, after-got}
 use Rattle.field.proofs.Whole.{whole-next, whole-stops, end-place}
@@ -37,24 +37,24 @@ pub row-told-got : {f : RowRead} {o : Out Row} {r : Row} {e : ℕ} → toldRow f
 unfolding toldRow
 row-told-got h q = sym h ∙ ap toldRow q
 
-pub row-told-refused : {f : RowRead} {o : Out Row} {r : Refusal} → toldRow f ≡ o → f ≡ Stopped r → o ≡ refused (numberOf r)
+pub row-told-refused : {f : RowRead} {o : Out Row} {r : Fault} → toldRow f ≡ o → f ≡ Stopped r → o ≡ refused (noteOf r)
 unfolding toldRow
 row-told-refused h q = sym h ∙ ap toldRow q
 
 -- ---- a row
 
 module _ (s : List ℕ) (at : ℕ) where
-  pub row-first : {m : ℕ} → cost s at ≡ refused m → row s at ≡ refused m
+  pub row-first : {m : Note} → cost s at ≡ refused m → row s at ≡ refused m
   unfolding row
   row-first f = stops cost _ s at f
 
   module _ {c a : ℕ} (f : cost s at ≡ got c a) where
-    pub row-second : {m : ℕ} → load s a ≡ refused m → row s at ≡ refused m
+    pub row-second : {m : Note} → load s a ≡ refused m → row s at ≡ refused m
     unfolding row
     row-second g = next cost _ s at f ∙ stops load _ s a g
 
     module _ {l b : ℕ} (g : load s a ≡ got l b) where
-      pub row-third : {m : ℕ} → delay s b ≡ refused m → row s at ≡ refused m
+      pub row-third : {m : Note} → delay s b ≡ refused m → row s at ≡ refused m
       unfolding row
       row-third h = next cost _ s at f ∙ next load _ s a g ∙ stops delay _ s b h
 
@@ -65,7 +65,7 @@ module _ (s : List ℕ) (at : ℕ) where
 -- ---- all before the rows
 
 module _ (unit t : ℕ) (s : List ℕ) (at : ℕ) where
-  pub heading-stops : {m : ℕ} → opening kinds unit t s at ≡ refused m → heading unit t s at ≡ refused m
+  pub heading-stops : {m : Note} → opening kinds unit t s at ≡ refused m → heading unit t s at ≡ refused m
   unfolding heading
   heading-stops f = halts (opening kinds unit t) _ s at f
 
@@ -106,7 +106,7 @@ module _ {n : ℕ} {s : List ℕ} {start : ℕ} {rows : List Row} {at i : ℕ} (
   }
 
   -- a row that is refused
-  pub rows-stop : {m : ℕ} → i < n → row s at ≡ refused m → whole (body n) s start ≡ refused m
+  pub rows-stop : {m : Note} → i < n → row s at ≡ refused m → whole (body n) s start ≡ refused m
   unfolding whole body
   rows-stop h f =
       stops (body n) _ s start (stops (times n row) _ s start (w .spec ∙ times-stop row s n i at (w .done) h f))
@@ -116,7 +116,7 @@ module _ {n : ℕ} {s : List ℕ} {start : ℕ} {rows : List Row} {at i : ℕ} (
   all-rows h = next (times n row) _ s start (w .spec ∙ times-done row s n i at (w .done) h)
 
   -- bytes after the last row
-  pub rows-extra : {m : ℕ} → n ≤ i → end s at ≡ refused m → whole (body n) s start ≡ refused m
+  pub rows-extra : {m : Note} → n ≤ i → end s at ≡ refused m → whole (body n) s start ≡ refused m
   unfolding whole
   rows-extra h f = next (body n) _ s start (all-rows h) ∙ halts end _ s at f
 
@@ -135,7 +135,7 @@ module _ {n : ℕ} {s : List ℕ} {start : ℕ} {rows : List Row} {at i : ℕ} (
 -- ---- how the reader ends
 
 -- refused: no table
-pub told-none : {n : ℕ} {o : Out Table} {r : Settings} (e : Refusal) → o ≡ refused (numberOf e) → r ≡ refusedWith e → Told n o r
+pub told-none : {n : ℕ} {o : Out Table} {r : Settings} (e : Fault) → o ≡ refused (noteOf e) → r ≡ refusedWith e → Told n o r
 unfolding refusedWith toldBy tableOf
 told-none {n} e h q = record {
   answer = ap (λ x. toldBy n (x .answer) (x .table)) q ∙ sym h;
@@ -150,6 +150,6 @@ module _ (unit t : ℕ) (s : List ℕ) where
   read-told {r = r} h w = subst (λ o. Told (length s) o r) (sym (whole-next (heading unit t) body s 0 h)) w
 
   -- a heading that is refused
-  pub read-stops : {m : ℕ} → heading unit t s 0 ≡ refused m → settingsSheet unit t s 0 ≡ refused m
+  pub read-stops : {m : Note} → heading unit t s 0 ≡ refused m → settingsSheet unit t s 0 ≡ refused m
   unfolding settingsSheet fields
   read-stops h = whole-stops (heading unit t) body s 0 h

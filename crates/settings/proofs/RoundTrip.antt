@@ -42,9 +42,9 @@ reads-row : (r : Row) → Good r → Reads row (rowBytes r) r
 unfolding row rowBytes
 reads-row r h =
     let w = in-range r h in
-    reads-bind _ (reads-between 1 costMost 6 6 (r .cost) (w .cost-low) (w .cost-high) (omega (arith, w .cost-high)))
-    (reads-bind _ (reads-between 0 loadMost 6 6 (r .load) (omega arith) (w .load-high) (omega (arith, w .load-high)))
-    (reads-checked _ (reads-between 0 delayMost 6 6 (r .delay) (omega arith) (w .delay-high)
+    reads-bind _ (reads-between 1 costMost 15 15 (r .cost) (w .cost-low) (w .cost-high) (omega (arith, w .cost-high)))
+    (reads-bind _ (reads-between 0 loadMost 15 15 (r .load) (omega arith) (w .load-high) (omega (arith, w .load-high)))
+    (reads-checked _ (reads-between 0 delayMost 15 15 (r .delay) (omega arith) (w .delay-high)
     (omega (arith, w .delay-high))) (reads-pure r)))
 
 module _ (unit t : ℕ) (rows : List Row) (u : unit < 2 ^ 32) (v : t < 2 ^ 32) (rented : 0 < t)
@@ -66,8 +66,8 @@ module _ (unit t : ℕ) (cs ls ds : List ℕ) where
   unfolding toldWritten answerTo
   read-written out n after u v w =
       draft-either unit t cs ls ds
-      (λ none.
-      let g : got tt n ≡ refused 6 = w .answer ∙ ap (λ d. answerTo d out) none in
+      (λ e _ none.
+      let g : got tt n ≡ refused e = w .answer ∙ ap (λ d. answerTo d out) none in
       absurd (let z : _≡_ {A = ℕ} 0 1 = cc in omega arith))
       (λ k.
       let b = sent-bytes _ out n after (subst (λ d. Sent d out (Length n) after) (k .is) w) in
@@ -84,9 +84,9 @@ row-spelt : (s : List ℕ) → Bytes s → (at : ℕ) (r : Row) (e : ℕ) → ro
 unfolding rowBytes
 row-spelt s b at r e h =
     let w = row-steps s at r e h in
-    let f = between-spelt s b at 1 costMost 6 6 (w .cost-got) in
-    let g = between-spelt s b (w .second) 0 loadMost 6 6 (w .load-got) in
-    let k = between-spelt s b (w .third) 0 delayMost 6 6 (w .delay-got) in (
+    let f = between-spelt s b at 1 costMost 15 15 (w .cost-got) in
+    let g = between-spelt s b (w .second) 0 loadMost 15 15 (w .load-got) in
+    let k = between-spelt s b (w .third) 0 delayMost 15 15 (w .delay-got) in (
       spelt-join (f .0) (spelt-join (g .0) (k .0)),
       range-in r (record { cost-low = f .1; cost-high = f .2; load-high = g .2; delay-high = k .2 }),
     )

@@ -3,10 +3,10 @@ use mathlib.Core.Path.{_≡_, refl, sym, ap, _∙_}
 use mathlib.Core.List.{List}
 use Prim.Native.Nat.{ℕ}
 use Rattle.field.specs.declared.Written.{Written}
-use Rattle.field.specs.Refusal.{numberOf}
+use Rattle.field.specs.Refusal.{noteOf}
 use Rattle.field.specs.Send.{Sent}
 use Rattle.field.proofs.Sends.{sent-unique}
-use Rattle.field.proofs.Unique.{number-injective}
+use Rattle.field.proofs.Unique.{note-injective}
 use Rattle.field.specs.declared.Verdict.{Verdict}
 use Rattle.field.specs.declared.Verdict.the-variants.{Accepted, Refused}
 use Rattle.settings.specs.declared.Settings.{Settings}
@@ -26,7 +26,7 @@ unfolding toldBy
 told-injective n T Accepted Accepted h = refl
 told-injective n T Accepted (Refused e) h = cc
 told-injective n T (Refused e) Accepted h = cc
-told-injective n T (Refused e) (Refused f) h = let m : numberOf e ≡ numberOf f = cc in ap Refused (number-injective e f m)
+told-injective n T (Refused e) (Refused f) h = let m : noteOf e ≡ noteOf f = cc in ap Refused (note-injective e f m)
 
 -- `read`: the answer and the table
 pub read-unique : (unit t : ℕ) (s : List ℕ) (n : ℕ) (a b : Settings)

@@ -1,7 +1,7 @@
 -- Laws of the writer.
 --     RowsPut, puts-start, puts-room, puts-step, puts-done      the loop over the rows
 --     ListsFit, lists-fit, fit-lists, unfit-lists     what the test of the three lists says
---     draft-sheet, draft-either          a draft is a sheet, or none with 6
+--     draft-sheet, draft-either          a draft is a sheet, or none
 --     sheet-length                       the length of a sheet by its parts
 --     write-unfit, write-out, write-long, write-done     the four ways in which the writer ends
 use mathlib.Core.Path.{_≡_, sym, ap, _∙_, subst}
@@ -20,9 +20,11 @@ use Rattle.basics.proofs.Tests.{by-cases, not-here, and-left, and-right, and-bo
 use Rattle.number.specs.Encode.{encode, widthOf}
 use Rattle.number.proofs.Encode.{width-one}
 use Rattle.field.specs.Put.{spellAll, openingBytes, Laid}
-use Rattle.field.specs.declared.Refusal.the-variants.{OutOfRange, NoRoom}
+use Rattle.field.specs.declared.Refusal.the-variants.{OutOfRange, NoRoom, BadAmount}
 use Rattle.field.specs.declared.Written.the-variants.{Length, Refused}
+use Rattle.field.specs.Refusal.{faultAt}
 use Rattle.field.specs.Send.{sheet, none, Sent}
+use Rattle.field.specs.Sheet.{Note, unplaced}
 use Rattle.field.proofs.Puts.{laid-none, laid-length, laid-join, spell-room}
 use Rattle.field.proofs.Opened.{opening-length}
 use Rattle.field.proofs.Sends.{sent-refused, sent-long, sent-fits}
@@ -139,27 +141,28 @@ module _ (unit t : ℕ) (cs ls ds : List ℕ) where
     long = length-rows cs ls ds (f .loads) (f .delays);
   }
 
-  -- every draft is none, with 6, or a sheet
-  pub draft-either : {X : Type 0} → (settingsDraft unit t cs ls ds ≡ none 6 → X) → (Sheeted → X) → X
+  -- every draft is none, not for want of room, or a sheet
+  pub draft-either : {X : Type 0} → ((n : Note) → (n .number ≡ 11 → ⊥) → settingsDraft unit t cs ls ds ≡ none n → X) → (Sheeted → X) → X
   unfolding settingsDraft
   draft-either f g =
       by-cases (listsFit t cs ls ds)
-      (λ p. by-cases (allInRange (rowsOf cs ls ds)) (λ q. g (draft-sheet (lists-fit p) q)) (λ n. f (pick-true _ _ p ∙ pick-false _ _ n)))
-      (λ n. f (pick-false _ _ n))
+      (λ p. by-cases (allInRange (rowsOf cs ls ds)) (λ q. g (draft-sheet (lists-fit p) q))
+      (λ n. f (unplaced 15) (λ z. absurd (omega (arith, z))) (pick-true _ _ p ∙ pick-false _ _ n)))
+      (λ n. f (unplaced 6) (λ z. absurd (omega (arith, z))) (pick-false _ _ n))
 
   module _ (out : List ℕ) where
-    pub write-unfit : listsFit t cs ls ds ≡ false → Sent (settingsDraft unit t cs ls ds) out (Refused OutOfRange) out
+    pub write-unfit : listsFit t cs ls ds ≡ false → Sent (settingsDraft unit t cs ls ds) out (Refused (faultAt OutOfRange 0)) out
     unfolding settingsDraft
-    write-unfit n = subst (λ d. Sent d out (Refused OutOfRange) out) (sym (pick-false _ _ n)) (sent-refused OutOfRange out)
+    write-unfit n = subst (λ d. Sent d out (Refused (faultAt OutOfRange 0)) out) (sym (pick-false _ _ n)) (sent-refused _ out)
 
     module _ {w : ℕ} (f : ListsFit t cs ls ds) (e : w ≡ rowsWidth (rowsOf cs ls ds)) where
-      pub write-out : w ≡ 0 → Sent (settingsDraft unit t cs ls ds) out (Refused OutOfRange) out
+      pub write-out : w ≡ 0 → Sent (settingsDraft unit t cs ls ds) out (Refused (faultAt BadAmount 0)) out
       unfolding settingsDraft rowsWidth
       write-out z =
           let long = length-rows cs ls ds (f .loads) (f .delays) in
           let n = gate-none (allInRange (rowsOf cs ls ds)) _ (rows-some (rowsOf cs ls ds) (omega (arith, f .some))) (sym e ∙ z) in
-          subst (λ d. Sent d out (Refused OutOfRange) out) (sym (pick-true _ _ (fit-lists f) ∙ pick-false _ _ n))
-          (sent-refused OutOfRange out)
+          subst (λ d. Sent d out (Refused (faultAt BadAmount 0)) out) (sym (pick-true _ _ (fit-lists f) ∙ pick-false _ _ n))
+          (sent-refused _ out)
 
       module _ (z : w ≡ 0 → ⊥) where
         sheeted : Sheeted
@@ -175,10 +178,11 @@ module _ (unit t : ℕ) (cs ls ds : List ℕ) where
           whole : length (sheetBytes unit t (rowsOf cs ls ds)) ≡ 2 + a + b + w
           whole = omega (arith, width, sheet-length unit t (rowsOf cs ls ds) (omega (arith, sheeted .long, f .few)))
 
-          pub write-long : length out < 2 + a + b + w → Sent (settingsDraft unit t cs ls ds) out (Refused NoRoom) out
+          pub write-long : length out < 2 + a + b + w
+              → Sent (settingsDraft unit t cs ls ds) out (Refused (faultAt NoRoom (2 + a + b + w))) out
           write-long l =
-              subst (λ d. Sent d out (Refused NoRoom) out) (sym (sheeted .is))
-              (sent-long (sheetBytes unit t (rowsOf cs ls ds)) out (omega (arith, whole)))
+              subst (λ d. Sent d out (Refused (faultAt NoRoom (2 + a + b + w))) out) (sym (sheeted .is))
+              (sent-long (sheetBytes unit t (rowsOf cs ls ds)) out (sym whole) l)
 
           module _ (l : 2 + a + b + w ≤ length out) where
             pub heading-room : length (headingBytes unit t (length cs)) ≤ length out

@@ -9,6 +9,7 @@ use Rattle.number.specs.Encode.{encode}
 use Rattle.basics.specs.Limits.{disksMost}
 use Rattle.field.specs.Put.{spellAll, openingBytes}
 use Rattle.field.specs.Send.{Draft, sheet, none}
+use Rattle.field.specs.Sheet.{unplaced}
 use Rattle.settings.specs.declared.Row.{Row}
 use Rattle.settings.specs.Row.{disk, allInRange, rowBytes}
 
@@ -32,9 +33,9 @@ unfoldable pub listsFit : ℕ → List ℕ → List ℕ → List ℕ → Bool
 listsFit t cs ls ds =
     ltb 0 t && (eqb (length ls) (length cs) && (eqb (length ds) (length cs) && (leb 1 (length cs) && leb (length cs) disksMost)))
 
--- 6 where they don't fit, and where a cost, load or delay is out of its range
+-- 6 where they don't fit; then 15 where a cost, load or delay is out of its range
 unfoldable pub settingsDraft : ℕ → ℕ → List ℕ → List ℕ → List ℕ → Draft
 settingsDraft unit t cs ls ds =
     pick (listsFit t cs ls ds)
-    (pick (allInRange (rowsOf cs ls ds)) (sheet (sheetBytes unit t (rowsOf cs ls ds))) (none 6))
-    (none 6)
+    (pick (allInRange (rowsOf cs ls ds)) (sheet (sheetBytes unit t (rowsOf cs ls ds))) (none (unplaced 15)))
+    (none (unplaced 6))

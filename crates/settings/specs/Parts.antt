@@ -1,15 +1,15 @@
 -- What the private functions promise.
 --     refusedWith              a refused sheet: no table
---     toldRow                  a row and the place after it, or a refusal's number
+--     toldRow                  a row and the place after it, or a refusal
 --     rowWidth, rowsWidth      the bytes of a row, and of all rows, or 0 where a value is out of its range
 use Prim.Native.Nat.{ℕ}
 use mathlib.Core.List.{List}
 use lib.ListN.{length}
 use Rattle.basics.specs.Count.{gate}
-use Rattle.field.specs.declared.Refusal.{Refusal}
+use Rattle.field.specs.declared.Fault.{Fault}
 use Rattle.field.specs.declared.Verdict.the-variants.{Refused}
 use Rattle.field.specs.Put.{spellAll}
-use Rattle.field.specs.Refusal.{numberOf}
+use Rattle.field.specs.Refusal.{noteOf}
 use Rattle.field.specs.Sheet.{Out, got, refused}
 use Rattle.settings.specs.declared.Row.{Row}
 use Rattle.settings.specs.declared.RowRead.{RowRead}
@@ -19,12 +19,12 @@ use Rattle.settings.specs.declared.Settings.{Settings}
 use Rattle.settings.specs.Row.{inRange, allInRange, rowBytes}
 use Rattle.settings.specs.Table.{noTable}
 
-unfoldable pub refusedWith : Refusal → Settings
+unfoldable pub refusedWith : Fault → Settings
 refusedWith e = record { answer = Refused e; table = noTable }
 
 unfoldable pub toldRow : RowRead → Out Row
 toldRow (Got r at) = got r at
-toldRow (Stopped e) = refused (numberOf e)
+toldRow (Stopped e) = refused (noteOf e)
 
 unfoldable pub rowWidth : Row → ℕ
 rowWidth r = gate (inRange r) (length (rowBytes r))

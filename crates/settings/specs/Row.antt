@@ -21,13 +21,13 @@ abbrev pub noDisk : Row
 noDisk = disk 0 0 0
 
 abbrev pub cost : Parser ℕ
-cost = inside 1 costMost 6
+cost = inside 1 costMost 15
 
 abbrev pub load : Parser ℕ
-load = inside 0 loadMost 6
+load = inside 0 loadMost 15
 
 abbrev pub delay : Parser ℕ
-delay = inside 0 delayMost 6
+delay = inside 0 delayMost 15
 
 unfoldable pub row : Parser Row
 row = do

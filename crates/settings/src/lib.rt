@@ -3,6 +3,7 @@ use basics::COST_MOST;
 use basics::DELAY_MOST;
 use basics::DISKS;
 use basics::LOAD_MOST;
+use field::Fault;
 use field::Field;
 use field::Refusal;
 use field::Verdict;
@@ -44,7 +45,7 @@ pub struct Settings {
 // One row and the place after it, or the refusal.
 enum RowRead {
     Got(Row, usize),
-    Refused(Refusal),
+    Refused(Fault),
 }
 
 // No settings yet: N is 0, all rows are 0.
@@ -63,12 +64,12 @@ pub fn empty() -> Table
 }
 
 // A refused sheet leaves no table.
-fn refuse(refusal: Refusal) -> Settings
-    ensures { λ r. ⌜ r ≡ refusedWith refusal ⌝ }
+fn refuse(fault: Fault) -> Settings
+    ensures { λ r. ⌜ r ≡ refusedWith fault ⌝ }
 {
     let table = empty();
     Settings {
-        answer: Verdict::Refused(refusal),
+        answer: Verdict::Refused(fault),
         table,
     }
 }
@@ -77,20 +78,20 @@ fn refuse(refusal: Refusal) -> Settings
 fn row_at(s: &[u8], at: usize) -> RowRead
     ensures { λ r. ⌜ toldRow r ≡ row (now (s .entry)) at ⌝ }
 {
-    match field::inside(s, at, 1, COST_MOST, Refusal::OutOfRange) {
+    match field::inside(s, at, 1, COST_MOST, Refusal::BadAmount) {
         Field::Got(cost, second) => match field::inside(
             s,
             second,
             0,
             LOAD_MOST,
-            Refusal::OutOfRange,
+            Refusal::BadAmount,
         ) {
             Field::Got(load, third) => match field::inside(
                 s,
                 third,
                 0,
                 DELAY_MOST,
-                Refusal::OutOfRange,
+                Refusal::BadAmount,
             ) {
                 Field::Got(delay, next) => RowRead::Got(Row { cost, load, delay }, next),
                 Field::Refused(e) => RowRead::Refused(e),
@@ -260,15 +261,25 @@ pub fn write(
         (now (out .entry)) r (now (out .exit)) ⌝ }
 {
     if !lists_fit(tenancy, costs, loads, delays) {
-        return Written::Refused(Refusal::OutOfRange);
+        return Written::Refused(Fault {
+            refusal: Refusal::OutOfRange,
+            place: 0,
+        });
     }
     let rows = rows_width(costs, loads, delays);
     if rows == 0 {
-        return Written::Refused(Refusal::OutOfRange);
+        return Written::Refused(Fault {
+            refusal: Refusal::BadAmount,
+            place: 0,
+        });
     }
     // Kind and N are one byte each.
-    if out.len() < 2 + number::width(unit) + number::width(tenancy) + rows {
-        return Written::Refused(Refusal::NoRoom);
+    let length = 2 + number::width(unit) + number::width(tenancy) + rows;
+    if out.len() < length {
+        return Written::Refused(Fault {
+            refusal: Refusal::NoRoom,
+            place: length,
+        });
     }
     let at = put_heading(unit, tenancy, costs.len() as u32, out);
     Written::Length(put_rows(costs, loads, delays, out, at))

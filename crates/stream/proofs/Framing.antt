@@ -12,13 +12,13 @@ use Rattle.number.specs.Decode.{Decoded, value, decode, refused as bad}
 use Rattle.basics.proofs.Choice.{pick-true, pick-false}
 use Rattle.basics.proofs.Tests.{by-cases}
 use Rattle.number.proofs.Decode.{decode-within}
-use Rattle.field.specs.declared.Refusal.{Refusal}
+use Rattle.field.specs.declared.Fault.{Fault}
 use Rattle.field.specs.Field.{taken, number, inside}
-use Rattle.field.specs.Refusal.{numberOf}
-use Rattle.field.specs.Sheet.{Out, got, refused, Parser, pure}
+use Rattle.field.specs.Refusal.{noteOf}
+use Rattle.field.specs.Sheet.{unplaced, Note, note, Out, got, refused, Parser, pure}
 use Rattle.field.proofs.Readers.{number-past}
 use Rattle.field.proofs.Sheet.{next, stops}
-use Rattle.field.proofs.Unique.{number-injective}
+use Rattle.field.proofs.Unique.{note-injective}
 use Rattle.field.proofs.Values.{between-within, between-range}
 use Rattle.stream.specs.declared.Span.{Span}
 use Rattle.stream.specs.declared.Span.the-variants.{Part, Refused as NoSheet}
@@ -30,19 +30,20 @@ use Rattle.stream.specs.Call.{Framed}
 
 -- ---- a number lies within the input
 
-ended-within : (s : List ℕ) (at v e : ℕ) (d : Decoded) → d ≡ decode (drop at s) → at ≤ length s → taken at d ≡ got v e → e ≤ length s
+ended-within : (s : List ℕ) (len at v e : ℕ) (d : Decoded) → d ≡ decode (drop at s) → at ≤ length s → taken len at d ≡ got v e
+    → e ≤ length s
 unfolding taken
-ended-within s at v e (value w n) q l h =
+ended-within s len at v e (value w n) q l h =
     let p : at + n ≡ e = cc in
     omega (arith, decode-within (drop at s) w n (sym q), length-drop at s)
-ended-within s at v e (bad m) q l h = absurd (let z : _≡_ {A = ℕ} 0 1 = cc in omega arith)
+ended-within s len at v e (bad m) q l h = absurd (let z : _≡_ {A = ℕ} 0 1 = cc in omega arith)
 
 pub number-within : (s : List ℕ) (at v e : ℕ) → number s at ≡ got v e → e ≤ length s
 unfolding number
 number-within s at v e h =
     by-cases (leb at (length s))
-    (λ t. ended-within s at v e (decode (drop at s)) refl (leb-true _ _ t) h)
-    (λ f. absurd (let x : refused 1 ≡ got v e = sym (number-past s at (leb-false _ _ f)) ∙ h in
+    (λ t. ended-within s (length s) at v e (decode (drop at s)) refl (leb-true _ _ t) h)
+    (λ f. absurd (let x : refused (note 1 (length s)) ≡ got v e = sym (number-past s at (leb-false _ _ f)) ∙ h in
     let z : _≡_ {A = ℕ} 0 1 = cc in omega arith))
 
 -- ---- a sheet
@@ -55,7 +56,7 @@ module _ (s : List ℕ) (at n e : ℕ) (h : inside 0 requestMost 6 s at ≡ got 
   unfolding sheet
   sheet-bytes = next (inside 0 requestMost 6) _ s at h
 
-  pub sheet-past : length s - e < n → sheet s at ≡ refused 1
+  pub sheet-past : length s - e < n → sheet s at ≡ refused (note 1 (length s))
   unfolding bytes
   sheet-past p = sheet-bytes ∙ pick-false _ _ (lt-leb (e + n) (length s) (omega (arith, length-within s at n e h)))
 
@@ -68,9 +69,9 @@ module _ (s : List ℕ) (at n e : ℕ) (h : inside 0 requestMost 6 s at ≡ got 
         record { order = omega arith; end = w },
       )
 
-pub sheet-stops : (s : List ℕ) (at n : ℕ) → inside 0 requestMost 6 s at ≡ refused n → sheet s at ≡ refused n
+pub sheet-stops : (s : List ℕ) (at : ℕ) {n : Note} → inside 0 requestMost 6 s at ≡ refused n → sheet s at ≡ refused n
 unfolding sheet
-sheet-stops s at n h = stops (inside 0 requestMost 6) _ s at h
+sheet-stops s at h = stops (inside 0 requestMost 6) _ s at h
 
 -- what was answered of a sheet
 pub spans-part : {s : List ℕ} {o : Out (List ℕ)} {x : Span} {from to : ℕ} → Spans s o x → x ≡ Part from to
@@ -78,13 +79,13 @@ pub spans-part : {s : List ℕ} {o : Out (List ℕ)} {x : Span} {from to : ℕ} 
 unfolding Spans
 spans-part {s} {o} {x} {from} {to} w q = subst (λ (y : Span). Spans s o y) q w
 
-pub spans-refused : (s : List ℕ) {o : Out (List ℕ)} {x : Span} {e : Refusal} → Spans s o x → x ≡ NoSheet e → o ≡ refused (numberOf e)
+pub spans-refused : (s : List ℕ) {o : Out (List ℕ)} {x : Span} {e : Fault} → Spans s o x → x ≡ NoSheet e → o ≡ refused (noteOf e)
 unfolding Spans
 spans-refused s {o} {x} {e} w q = subst (λ (y : Span). Spans s o y) q w
 
 -- ---- the ways in which a call is answered
 
-pub framed-refused : {s : List ℕ} {o : Out Asked} (e : Refusal) → o ≡ refused (numberOf e) → Framed s o (Refused e)
+pub framed-refused : {s : List ℕ} {o : Out Asked} (e : Fault) → o ≡ refused (noteOf e) → Framed s o (Refused e)
 unfolding toldCall Held
 framed-refused e h = record { answer = sym h; held = tt }
 
@@ -102,7 +103,7 @@ module _ (s : List ℕ) (at : ℕ) where
   unfolding ofTenancy pure toldCall Held
   return-framed t e h = record { answer = sym (next number _ s at h); held = tt }
 
-  pub tenancy-stops : (ask : ℕ → Asked) (x : Refusal) → number s at ≡ refused (numberOf x) → Framed s (ofTenancy ask s at) (Refused x)
+  pub tenancy-stops : (ask : ℕ → Asked) (x : Fault) → number s at ≡ refused (noteOf x) → Framed s (ofTenancy ask s at) (Refused x)
   unfolding ofTenancy
   tenancy-stops ask x h = framed-refused x (stops number _ s at h)
 
@@ -112,7 +113,7 @@ module _ (s : List ℕ) (at : ℕ) where
   unfolding ofSettings pure toldCall Held
   settings-framed from to p = record { answer = sym (next sheet _ s at (p .0)); held = p .1 }
 
-  pub settings-stops : (x : Refusal) → sheet s at ≡ refused (numberOf x) → Framed s (ofSettings s at) (Refused x)
+  pub settings-stops : (x : Fault) → sheet s at ≡ refused (noteOf x) → Framed s (ofSettings s at) (Refused x)
   unfolding ofSettings
   settings-stops x h = framed-refused x (stops sheet _ s at h)
 
@@ -128,12 +129,12 @@ module _ (s : List ℕ) (at : ℕ) where
             (p .1, between-range 0 roomMost 6 6 s at h .1);
       }
 
-  pub request-sheet-stops : (room e : ℕ) (x : Refusal) → inside 0 roomMost 6 s at ≡ got room e → sheet s e ≡ refused (numberOf x)
+  pub request-sheet-stops : (room e : ℕ) (x : Fault) → inside 0 roomMost 6 s at ≡ got room e → sheet s e ≡ refused (noteOf x)
       → Framed s (ofRequest s at) (Refused x)
   unfolding ofRequest
   request-sheet-stops room e x h p = framed-refused x (next (inside 0 roomMost 6) _ s at h ∙ stops sheet _ s e p)
 
-  pub request-stops : (x : Refusal) → inside 0 roomMost 6 s at ≡ refused (numberOf x) → Framed s (ofRequest s at) (Refused x)
+  pub request-stops : (x : Fault) → inside 0 roomMost 6 s at ≡ refused (noteOf x) → Framed s (ofRequest s at) (Refused x)
   unfolding ofRequest
   request-stops x h = framed-refused x (stops (inside 0 roomMost 6) _ s at h)
 
@@ -162,7 +163,7 @@ module _ (s : List ℕ) (at : ℕ) where
               (ap (λ (p : Parser Asked). p s at) (pick-false _ _ (ne-eqb c 1 n₁) ∙ pick-false _ _ (ne-eqb c 2 n₂)
               ∙ pick-false _ _ (ne-eqb c 3 n₃) ∙ pick-true _ _ (eq-eqb c 4 q))) w
 
-  pub unknown-call : (c : ℕ) → (c ≡ 1 → ⊥) → (c ≡ 2 → ⊥) → (c ≡ 3 → ⊥) → (c ≡ 4 → ⊥) → (x : Refusal) → numberOf x ≡ 3
+  pub unknown-call : (c : ℕ) → (c ≡ 1 → ⊥) → (c ≡ 2 → ⊥) → (c ≡ 3 → ⊥) → (c ≡ 4 → ⊥) → (x : Fault) → noteOf x ≡ unplaced 3
       → Framed s (behind c s at) (Refused x)
   unfolding behind none
   unknown-call c n₁ n₂ n₃ n₄ x k =
@@ -174,7 +175,7 @@ pub call-framed : {s : List ℕ} {r : Call} (c e : ℕ) → number s 0 ≡ got c
 unfolding asked
 call-framed {s} c e h w = framed-same (next number _ s 0 h) w
 
-pub call-stops : {s : List ℕ} (x : Refusal) → number s 0 ≡ refused (numberOf x) → Framed s (asked s 0) (Refused x)
+pub call-stops : {s : List ℕ} (x : Fault) → number s 0 ≡ refused (noteOf x) → Framed s (asked s 0) (Refused x)
 unfolding asked
 call-stops {s} x h = framed-refused x (stops number _ s 0 h)
 
@@ -199,12 +200,12 @@ sheet-unique s o (Part c e) (Part f g) v w =
     let l : part s c e ≡ part s f e = p ∙ ap (part s f) (sym n) in
     let m : c ≡ f = part-from s c f e (v .1) (rw n (w .1)) l in
     cc
-sheet-unique s o (Part c e) (NoSheet y) v w = let q : got (part s c e) e ≡ refused (numberOf y) = sym (v .0) ∙ w in cc
-sheet-unique s o (NoSheet x) (Part f g) v w = let q : refused (numberOf x) ≡ got (part s f g) g = sym v ∙ w .0 in cc
+sheet-unique s o (Part c e) (NoSheet y) v w = let q : got (part s c e) e ≡ refused (noteOf y) = sym (v .0) ∙ w in cc
+sheet-unique s o (NoSheet x) (Part f g) v w = let q : refused (noteOf x) ≡ got (part s f g) g = sym v ∙ w .0 in cc
 sheet-unique s o (NoSheet x) (NoSheet y) v w =
-    let q : refused (numberOf x) ≡ refused (numberOf y) = sym v ∙ w in
-    let n : numberOf x ≡ numberOf y = cc in
-    ap NoSheet (number-injective x y n)
+    let q : refused (noteOf x) ≡ refused (noteOf y) = sym v ∙ w in
+    let n : noteOf x ≡ noteOf y = cc in
+    ap NoSheet (note-injective x y n)
 
 same : (s : List ℕ) (a b : Call) → toldCall s a ≡ toldCall s b → Held s a → Held s b → a ≡ b
 unfolding toldCall Held
@@ -243,7 +244,7 @@ same s (Refused x) (Rent u f) q h k = cc
 same s (Refused x) (Settings f g) q h k = cc
 same s (Refused x) (Request m f g) q h k = cc
 same s (Refused x) (Return u f) q h k = cc
-same s (Refused x) (Refused y) q h k = let n : numberOf x ≡ numberOf y = cc in ap Refused (number-injective x y n)
+same s (Refused x) (Refused y) q h k = let n : noteOf x ≡ noteOf y = cc in ap Refused (note-injective x y n)
 
 pub call-unique : (s : List ℕ) (o : Out Asked) (a b : Call) → Framed s o a → Framed s o b → a ≡ b
 call-unique s o a b v w = same s a b (v .answer ∙ sym (w .answer)) (v .held) (w .held)

@@ -11,7 +11,7 @@ use Rattle.basics.specs.Limits.{requestMost}
 use Rattle.basics.proofs.Choice.{pick-elim}
 use Rattle.number.specs.Decode.{Decoded, value, decode, more, under, refused as bad}
 use Rattle.field.specs.Field.{taken, number, between, inside}
-use Rattle.field.specs.Sheet.{Out, got, refused, Parser, andThen, _>>=_, _>>_, pure, require}
+use Rattle.field.specs.Sheet.{Note, Out, got, refused, Parser, andThen, _>>=_, _>>_, pure, here, require}
 use Rattle.stream.specs.Frame.{bytes, sheet}
 use Rattle.stream.specs.Call.{roomMost, Asked, rents, returns, ofTenancy, ofSettings, ofRequest, none, behind, asked}
 
@@ -39,14 +39,14 @@ unfolding Some decode
 decode-some [] = tt
 decode-some (b ∷ s) = pick-elim Some (ltb b 128) _ _ (λ _. omega arith) (λ _. some-under b (more 3 s))
 
-taken-past : (at : ℕ) (d : Decoded) → Some d → Past (at + 1) (taken at d)
+taken-past : (len at : ℕ) (d : Decoded) → Some d → Past (at + 1) (taken len at d)
 unfolding Past Some taken
-taken-past at (value v n) h = omega arith
-taken-past at (bad m) h = tt
+taken-past len at (value v n) h = omega arith
+taken-past len at (bad m) h = tt
 
 pub number-past : (s : List ℕ) (at : ℕ) → Past (at + 1) (number s at)
 unfolding number
-number-past s at = taken-past at (decode (drop at s)) (decode-some (drop at s))
+number-past s at = taken-past (length s) at (decode (drop at s)) (decode-some (drop at s))
 
 -- ---- one reader, then another
 
@@ -74,11 +74,15 @@ onward-pure : {A : Type 0} (a : A) → Onward (pure a)
 unfolding pure Past
 onward-pure a = record { past = λ s at. omega arith }
 
+onward-here : Onward here
+unfolding here Past
+onward-here = record { past = λ s at. omega arith }
+
 onward-none : Onward none
 unfolding none Past
 onward-none = record { past = λ s at. tt }
 
-onward-require : (b : Bool) (m : ℕ) → Onward (require b m)
+onward-require : (b : Bool) (m : Note) → Onward (require b m)
 unfolding require Past
 onward-require b m = record { past = λ s at. pick-elim (Past {A = Unit} at) b _ _ (λ _. omega arith) (λ _. tt) }
 
@@ -88,8 +92,9 @@ onward-number = record { past = λ s at. sooner at (at + 1) (number s at) (omega
 onward-inside : (low high e : ℕ) → Onward (inside low high e)
 unfolding between
 onward-inside low high e =
-    onward-bind onward-number
-    (λ v. onward-then (onward-require (leb v high) e) (onward-then (onward-require (leb low v) e) (onward-pure v)))
+    onward-bind onward-here
+    (λ at. onward-bind onward-number
+    (λ v. onward-then (onward-require _ _) (onward-then (onward-require _ _) (onward-pure v))))
 
 onward-bytes : (n : ℕ) → Onward (bytes n)
 unfolding bytes Past

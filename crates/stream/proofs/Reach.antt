@@ -16,7 +16,7 @@ use Rattle.number.specs.Decode.{Decoded, value, decode, more, under, refused as
 use Rattle.basics.proofs.Choice.{pick-elim}
 use Rattle.number.proofs.Decode.{decode-within}
 use Rattle.field.specs.Field.{taken, number, between, inside}
-use Rattle.field.specs.Sheet.{Out, got, refused, Parser, andThen, _>>=_, _>>_, pure, require}
+use Rattle.field.specs.Sheet.{Note, Out, got, refused, Parser, andThen, _>>=_, _>>_, pure, here, require}
 use Rattle.field.proofs.Values.{between-range}
 use Rattle.stream.specs.Frame.{bytes, sheet}
 use Rattle.stream.specs.Call.{roomMost, callMost, Asked, rents, returns, ofTenancy, ofSettings, ofRequest, none, behind, asked}
@@ -68,7 +68,7 @@ decode-narrow (b ∷ s) =
 -- of n bytes, read from a place on
 unfoldable pub Far : {A : Type 0} → ℕ → ℕ → ℕ → ℕ → Out A → Type 0
 Far n at k w (got a e) = (e ≤ n) × (e ≤ at + k)
-Far n at k w (refused m) = m ≡ 1 → n < at + w
+Far n at k w (refused m) = m .number ≡ 1 → n < at + w
 
 -- from an earlier place, or less narrowly
 pub far-on : {A : Type 0} (n at e : ℕ) (k w j v : ℕ) (o : Out A) → Far n e k w o → e + k ≤ at + j → e + w ≤ at + v → Far n at j v o
@@ -84,7 +84,7 @@ far-then n at j v k w (got a e) f h l g = g a e refl (h .0) (h .1)
 far-then n at j v k w (refused m) f h l g = λ x. omega (arith, h x)
 
 far-taken : (s : List ℕ) (at : ℕ) (d : Decoded) → d ≡ decode (drop at s) → at ≤ length s → Narrow (drop at s) d
-    → Far (length s) at 5 5 (taken at d)
+    → Far (length s) at 5 5 (taken (length s) at d)
 unfolding Far Narrow taken
 far-taken s at (value v n) q l h = (omega (arith, decode-within (drop at s) v n (sym q), length-drop at s), omega arith)
 far-taken s at (bad m) q l h = λ x. omega (arith, h x, length-drop at s)
@@ -93,22 +93,22 @@ pub number-far : (s : List ℕ) (at : ℕ) → at ≤ length s → Far (length s
 unfolding number
 number-far s at l = far-taken s at (decode (drop at s)) refl l (decode-narrow (drop at s))
 
-taken-narrow : (s : List ℕ) (at v e : ℕ) (d : Decoded) → Narrow s d → taken at d ≡ got v e → (v < 128 → e ≤ at + 1)
+taken-narrow : (s : List ℕ) (len at v e : ℕ) (d : Decoded) → Narrow s d → taken len at d ≡ got v e → (v < 128 → e ≤ at + 1)
     × (v < 16384 → e ≤ at + 2)
 unfolding Narrow taken
-taken-narrow s at v e (value w n) h q =
+taken-narrow s len at v e (value w n) h q =
     let a : w ≡ v = cc in
     let b : at + n ≡ e = cc in
     (λ l. omega (arith, h .1 (omega arith)), λ l. omega (arith, h .2 (omega arith)))
-taken-narrow s at v e (bad m) h q = absurd (let z : _≡_ {A = ℕ} 0 1 = cc in omega arith)
+taken-narrow s len at v e (bad m) h q = absurd (let z : _≡_ {A = ℕ} 0 1 = cc in omega arith)
 
 -- a small number has few bytes
 pub number-narrow : (s : List ℕ) (at v e : ℕ) → number s at ≡ got v e → (v < 128 → e ≤ at + 1) × (v < 16384 → e ≤ at + 2)
 unfolding number
-number-narrow s at v e q = taken-narrow (drop at s) at v e (decode (drop at s)) (decode-narrow (drop at s)) q
+number-narrow s at v e q = taken-narrow (drop at s) (length s) at v e (decode (drop at s)) (decode-narrow (drop at s)) q
 
 -- a test on the way that refuses with another number than 1
-far-require : {A : Type 0} (n at k w : ℕ) (b : Bool) (m : ℕ) (q : Parser A) (s : List ℕ) (e : ℕ) → (m ≡ 1 → ⊥)
+far-require : {A : Type 0} (n at k w : ℕ) (b : Bool) (m : Note) (q : Parser A) (s : List ℕ) (e : ℕ) → (m .number ≡ 1 → ⊥)
     → (b ≡ true → Far n at k w (q s e)) → Far n at k w ((require b m >> q) s e)
 unfolding require _>>_ andThen pick Far
 far-require n at k w true m q s e z h = h refl
@@ -116,11 +116,11 @@ far-require n at k w false m q s e z h = λ x. absurd (z x)
 
 -- a number in a range of two bytes at the most
 pub inside-far : (s : List ℕ) (at low high : ℕ) → at ≤ length s → high < 16384 → Far (length s) at 2 5 (inside low high 6 s at)
-unfolding between _>>=_ Far pure
+unfolding between _>>=_ andThen here Far pure
 inside-far s at low high l b =
     far-then (length s) at 5 5 2 5 (number s at) _ (number-far s at l) (omega arith) λ v e q i j.
-    far-require (length s) at 2 5 (leb v high) 6 _ s e (λ x. omega arith) λ t.
-    far-require (length s) at 2 5 (leb low v) 6 (pure v) s e (λ x. omega arith) λ _.
+    far-require (length s) at 2 5 (leb v high) _ _ s e (λ x. omega arith) λ t.
+    far-require (length s) at 2 5 (leb low v) _ (pure v) s e (λ x. omega arith) λ _.
     (i, number-narrow s at v e q .1 (omega (arith, leb-true v high t)))
 
 -- so many bytes
@@ -193,11 +193,11 @@ asked-far s =
     behind-far s c e q i (omega arith)
 
 -- a call wants more bytes only while fewer than the longest call's are there
-pub asked-longest : (s : List ℕ) → asked s 0 ≡ refused 1 → length s < callMost
+pub asked-longest : (s : List ℕ) {m : Note} → asked s 0 ≡ refused m → m .number ≡ 1 → length s < callMost
 unfolding Far
-asked-longest s q = subst (Far (length s) 0 callMost callMost) q (asked-far s) refl
+asked-longest s q = subst (Far (length s) 0 callMost callMost) q (asked-far s)
 
 -- so does a number
-pub number-longest : (s : List ℕ) → number s 0 ≡ refused 1 → length s < 5
+pub number-longest : (s : List ℕ) {m : Note} → number s 0 ≡ refused m → m .number ≡ 1 → length s < 5
 unfolding Far
-number-longest s q = subst (Far (length s) 0 5 5) q (number-far s 0 (omega arith)) refl
+number-longest s q = subst (Far (length s) 0 5 5) q (number-far s 0 (omega arith))

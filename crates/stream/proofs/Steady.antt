@@ -1,7 +1,8 @@
 -- A call in a stream does not depend on what follows it: more bytes change only an answer of 1.
+--     Wants            an answer of 1, whatever the place that it tells: that is where the bytes end
 --     Steady           such a reader
 --     steady-got       what it gave it gives with more bytes too
---     steady-refused   what it refused with another number than 1 it refuses with more bytes too
+--     steady-refused   what it refused with another number than 1 it refuses with more bytes too, at the same place
 --     asked-steady     one call is such a reader
 use mathlib.Core.Path.{_≡_, refl, sym, ap, _∙_, subst}
 use mathlib.Core.Bool.{Bool, true, false}
@@ -9,7 +10,7 @@ use mathlib.Core.List.{List, [], _∷_, _++_}
 use mathlib.Core.Logic.{_⊎_, inl, inr}
 use Prim.Native.Nat.{ℕ, zero, suc, _+_, _≤_, _<_}
 use native.Mathlib.Omega.{arith}
-use borrow.Author.Tests.{le-leb, leb-true, leb-false}
+use borrow.Author.Tests.{le-leb, leb-true, leb-false, eqb-true}
 use lib.Dec.{eqb, leb, ltb}
 use lib.ListN.{length, take, drop, length-append, length-drop}
 use lib.Seq.{drop-append-le, take-append-le}
@@ -20,7 +21,7 @@ use Rattle.basics.proofs.Choice.{pick-true, pick-false, pick-elim}
 use Rattle.basics.proofs.Tests.{by-cases}
 use Rattle.number.proofs.Decode.{decode-within}
 use Rattle.field.specs.Field.{taken, number, between, inside}
-use Rattle.field.specs.Sheet.{Out, got, refused, Parser, andThen, _>>=_, _>>_, pure, require}
+use Rattle.field.specs.Sheet.{Note, note, Out, got, refused, Parser, andThen, _>>=_, _>>_, pure, here, require}
 use Rattle.stream.specs.Frame.{bytes, sheet}
 use Rattle.stream.specs.Call.{roomMost, Asked, rents, returns, ofTenancy, ofSettings, ofRequest, none, behind, asked}
 
@@ -59,15 +60,20 @@ unfoldable pub Ends : {A : Type 0} → ℕ → Out A → Type 0
 Ends n (got a e) = e ≤ n
 Ends n (refused m) = Unit
 
+-- a refusal of 1, wherever the bytes end
+unfoldable pub Wants : {A : Type 0} → Out A → Type 0
+Wants (got a e) = ⊥
+Wants (refused m) = m .number ≡ 1
+
 unfoldable pub Same : {A : Type 0} → ℕ → Out A → Out A → Type 0
-Same n o q = (o ≡ refused 1) ⊎ ((q ≡ o) × Ends n o)
+Same n o q = Wants o ⊎ ((q ≡ o) × Ends n o)
 
 pub record Steady {A : Type 0} (p : Parser A) : Type 0 where
   pub more-bytes : (s r : List ℕ) (at : ℕ) → at ≤ length s → Same (length s) (p s at) (p (s ++ r) at)
 
 same-got : {A : Type 0} (n : ℕ) (o q : Out A) (a : A) (e : ℕ) → o ≡ got a e → Same n o q → (q ≡ got a e) × (e ≤ n)
-unfolding Same Ends
-same-got n o q a e h (inl x) = absurd (let w : got a e ≡ refused 1 = sym h ∙ x in let z : _≡_ {A = ℕ} 0 1 = cc in omega arith)
+unfolding Same Ends Wants
+same-got n o q a e h (inl x) = absurd (subst Wants h x)
 same-got n o q a e h (inr x) = (x .0 ∙ h, subst (Ends n) h (x .1))
 
 -- what was read is there with more bytes too, and ends within those that were there
@@ -75,29 +81,33 @@ pub steady-got : {A : Type 0} {p : Parser A} → Steady p → (s r : List ℕ) {
     → (p (s ++ r) 0 ≡ got a e) × (e ≤ length s)
 steady-got {A} {p} w s r {a} {e} h = same-got (length s) (p s 0) (p (s ++ r) 0) a e h (w .more-bytes s r 0 (omega arith))
 
-same-refused : {A : Type 0} (n : ℕ) (o q : Out A) (m : ℕ) → o ≡ refused m → (m ≡ 1 → ⊥) → Same n o q → q ≡ refused m
-unfolding Same
-same-refused n o q m h z (inl x) = absurd (z (let w : refused m ≡ refused 1 = sym h ∙ x in cc))
+same-refused : {A : Type 0} (n : ℕ) (o q : Out A) (m : Note) → o ≡ refused m → (m .number ≡ 1 → ⊥) → Same n o q → q ≡ refused m
+unfolding Same Wants
+same-refused n o q m h z (inl x) = absurd (z (subst Wants h x))
 same-refused n o q m h z (inr x) = x .0 ∙ h
 
--- any other refusal than 1 stands, whatever follows
-pub steady-refused : {A : Type 0} {p : Parser A} → Steady p → (s r : List ℕ) {m : ℕ} → p s 0 ≡ refused m → (m ≡ 1 → ⊥)
+-- any other refusal than 1 stands, with its place, whatever follows
+pub steady-refused : {A : Type 0} {p : Parser A} → Steady p → (s r : List ℕ) {m : Note} → p s 0 ≡ refused m → (m .number ≡ 1 → ⊥)
     → p (s ++ r) 0 ≡ refused m
 steady-refused {A} {p} w s r {m} h z = same-refused (length s) (p s 0) (p (s ++ r) 0) m h z (w .more-bytes s r 0 (omega arith))
 
-firm-taken : (n at : ℕ) (d e : Decoded) → ((v k : ℕ) → d ≡ value v k → at + k ≤ n) → Firm d e → Same n (taken at d) (taken at e)
-unfolding Firm Same Ends taken
-firm-taken n at (value v k) e w (inl h) = absurd (let z : _≡_ {A = ℕ} 0 1 = cc in omega arith)
-firm-taken n at (bad m) e w (inl h) = inl (ap (taken at) h)
-firm-taken n at (value v k) e w (inr h) = inr (ap (taken at) h, w v k refl)
-firm-taken n at (bad m) e w (inr h) = inr (ap (taken at) h, tt)
+firm-taken : (n k at : ℕ) (d e : Decoded) → ((v m : ℕ) → d ≡ value v m → at + m ≤ n) → Firm d e → Same n (taken n at d) (taken k at e)
+unfolding Firm Same Ends Wants taken
+firm-taken n k at (value v m) e w (inl h) = absurd (let z : _≡_ {A = ℕ} 0 1 = cc in omega arith)
+firm-taken n k at (bad m) e w (inl h) = inl cc
+firm-taken n k at (value v m) e w (inr h) = inr (ap (taken k at) h, w v m refl)
+firm-taken n k at (bad m) e w (inr h) =
+    by-cases (eqb m 1)
+    (λ t. inl (eqb-true m 1 t))
+    (λ f. inr (ap (taken k at) h ∙ ap (λ (p : ℕ). refused (note m p)) (pick-false k at f ∙ sym (pick-false n at f)), tt))
 
 pub number-steady : Steady number
 unfolding number
 number-steady = record {
   more-bytes = λ s r at l.
-      subst (λ (x : List ℕ). Same (length s) (taken at (decode (drop at s))) (taken at (decode x))) (sym (drop-append-le at s r l))
-      (firm-taken (length s) at (decode (drop at s)) (decode (drop at s ++ r))
+      subst (λ (x : List ℕ). Same (length s) (taken (length s) at (decode (drop at s))) (taken (length (s ++ r)) at (decode x)))
+      (sym (drop-append-le at s r l))
+      (firm-taken (length s) (length (s ++ r)) at (decode (drop at s)) (decode (drop at s ++ r))
       (λ v k h. omega (arith, decode-within (drop at s) v k h, length-drop at s)) (decode-firm (drop at s) r));
 }
 
@@ -105,8 +115,9 @@ number-steady = record {
 module _ {A B : Type 0} where
   then-same : (n : ℕ) (o q : Out A) (f g : A → ℕ → Out B) → Same n o q → ((a : A) (e : ℕ) → e ≤ n → Same n (f a e) (g a e))
       → Same n (andThen o f) (andThen q g)
-  unfolding Same Ends andThen
-  then-same n o q f g (inl h) w = inl (ap (λ (x : Out A). andThen x f) h)
+  unfolding Same Ends Wants andThen
+  then-same n (got a e) q f g (inl h) w = absurd h
+  then-same n (refused m) q f g (inl h) w = inl h
   then-same n (got a e) q f g (inr h) w = subst (λ (x : Out A). Same n (f a e) (andThen x g)) (sym (h .0)) (w a e (h .1))
   then-same n (refused m) q f g (inr h) w = inr (ap (λ (x : Out A). andThen x g) (h .0), tt)
 
@@ -130,28 +141,34 @@ pub steady-pure : {A : Type 0} (a : A) → Steady (pure a)
 unfolding pure Same Ends
 steady-pure a = record { more-bytes = λ s r at l. inr (refl, l) }
 
+steady-here : Steady here
+unfolding here Same Ends
+steady-here = record { more-bytes = λ s r at l. inr (refl, l) }
+
 steady-none : Steady none
 unfolding none Same Ends
 steady-none = record { more-bytes = λ s r at l. inr (refl, tt) }
 
-require-same : (n : ℕ) (b : Bool) (m at : ℕ) → at ≤ n → Same {A = Unit} n (pick b (got tt at) (refused m)) (pick b (got tt at) (refused m))
+require-same : (n : ℕ) (b : Bool) (m : Note) (at : ℕ) → at ≤ n
+    → Same {A = Unit} n (pick b (got tt at) (refused m)) (pick b (got tt at) (refused m))
 unfolding Same Ends pick
 require-same n true m at l = inr (refl, l)
 require-same n false m at l = inr (refl, tt)
 
-steady-require : (b : Bool) (m : ℕ) → Steady (require b m)
+steady-require : (b : Bool) (m : Note) → Steady (require b m)
 unfolding require
 steady-require b m = record { more-bytes = λ s r at l. require-same (length s) b m at l }
 
 steady-inside : (low high e : ℕ) → Steady (inside low high e)
 unfolding between
 steady-inside low high e =
-    steady-bind number-steady
-    (λ v. steady-then (steady-require (leb v high) e) (steady-then (steady-require (leb low v) e) (steady-pure v)))
+    steady-bind steady-here
+    (λ at. steady-bind number-steady
+    (λ v. steady-then (steady-require _ _) (steady-then (steady-require _ _) (steady-pure v))))
 
 -- so many bytes
 steady-bytes : (n : ℕ) → Steady (bytes n)
-unfolding bytes Same Ends
+unfolding bytes Same Ends Wants
 steady-bytes n = record {
   more-bytes = λ s r at l.
       by-cases (leb (at + n) (length s))
@@ -163,7 +180,7 @@ steady-bytes n = record {
       let z : take n (drop at (s ++ r)) ≡ take n (drop at s) = ap (take n) (drop-append-le at s r l)
       ∙ take-append-le n (drop at s) r (omega (arith, length-drop at s)) in
       inr (y ∙ ap (λ (w : List ℕ). got w (at + n)) z ∙ sym x, subst (Ends (length s)) (sym x) h))
-      (λ f. inl (pick-false _ _ f));
+      (λ f. inl (subst Wants (sym (pick-false _ _ f)) refl));
 }
 
 pub steady-sheet : Steady sheet

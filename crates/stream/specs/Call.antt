@@ -10,8 +10,8 @@ use lib.Dec.{eqb}
 use Rattle.basics.specs.Limits.{requestMost}
 use Rattle.basics.specs.Choice.{pick}
 use Rattle.field.specs.Field.{number, inside}
-use Rattle.field.specs.Refusal.{numberOf}
-use Rattle.field.specs.Sheet.{Out, got, refused, Parser, _>>=_, pure}
+use Rattle.field.specs.Refusal.{noteOf}
+use Rattle.field.specs.Sheet.{Out, got, refused, unplaced, Parser, _>>=_, pure}
 use Rattle.stream.specs.declared.Call.{Call}
 use Rattle.stream.specs.declared.Call.the-variants.{Rent, Settings, Request, Return, Refused}
 use Rattle.stream.specs.Frame.{sheet, part, Within}
@@ -49,9 +49,9 @@ ofRequest = do
   s ← sheet
   pure (requests room s)
 
--- 3 where the call is none of the four
+-- 3 where the call is none of the four, at its own number: a call stands at the start of what has been read
 unfoldable pub none : Parser Asked
-none s at = refused 3
+none s at = refused (unplaced 3)
 
 -- what follows the call's number
 unfoldable pub behind : ℕ → Parser Asked
@@ -63,13 +63,13 @@ asked = do
   c ← number
   behind c
 
--- what is asked and the place after the call, or a number
+-- what is asked and the place after the call, or a refusal
 unfoldable pub toldCall : List ℕ → Call → Out Asked
 toldCall s (Rent t e) = got (rents t) e
 toldCall s (Settings from e) = got (sets (part s from e)) e
 toldCall s (Request room from e) = got (requests room (part s from e)) e
 toldCall s (Return t e) = got (returns t) e
-toldCall s (Refused e) = refused (numberOf e)
+toldCall s (Refused e) = refused (noteOf e)
 
 -- the sheet of a call lies within what has been read, and a room is at most 4,096
 unfoldable pub Held : List ℕ → Call → Type 0

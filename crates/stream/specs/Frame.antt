@@ -7,14 +7,14 @@ use lib.ListN.{length, take, drop}
 use Rattle.basics.specs.Limits.{requestMost}
 use Rattle.basics.specs.Choice.{pick}
 use Rattle.field.specs.Field.{inside}
-use Rattle.field.specs.Refusal.{numberOf}
-use Rattle.field.specs.Sheet.{Out, got, refused, Parser, _>>=_}
+use Rattle.field.specs.Refusal.{noteOf}
+use Rattle.field.specs.Sheet.{Out, got, refused, note, Parser, _>>=_}
 use Rattle.stream.specs.declared.Span.{Span}
 use Rattle.stream.specs.declared.Span.the-variants.{Part, Refused}
 
 -- so many bytes, or 1 where they run past the input
 unfoldable pub bytes : ℕ → Parser (List ℕ)
-bytes n s at = pick (leb (at + n) (length s)) (got (take n (drop at s)) (at + n)) (refused 1)
+bytes n s at = pick (leb (at + n) (length s)) (got (take n (drop at s)) (at + n)) (refused (note 1 (length s)))
 
 -- the length of a sheet, 6 above 9,229, and that sheet
 unfoldable pub sheet : Parser (List ℕ)
@@ -34,4 +34,4 @@ pub record Within (s : List ℕ) (from to : ℕ) : Type 0 where
 -- where a sheet stands, or why there is none
 unfoldable pub Spans : List ℕ → Out (List ℕ) → Span → Type 0
 Spans s o (Part from to) = (o ≡ got (part s from to) to) × Within s from to
-Spans s o (Refused e) = o ≡ refused (numberOf e)
+Spans s o (Refused e) = o ≡ refused (noteOf e)

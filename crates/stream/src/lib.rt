@@ -1,5 +1,6 @@
 // Framed in a stream of bytes: a sheet behind its length, and one of the shelf's calls.
 use basics::REQUEST_MOST;
+use field::Fault;
 use field::Field;
 use field::Refusal;
 ghost use Rattle.stream.specs.Call.{asked, behind, rents, returns, ofTenancy, ofSettings, ofRequest, Framed};
@@ -12,7 +13,7 @@ pub const ROOM_MOST: usize = 4096;
 // Where a framed sheet stands, or why there is none.
 pub enum Span {
     Part(usize, usize),
-    Refused(Refusal),
+    Refused(Fault),
 }
 
 // What a call in the shelf's stream asks: where its sheet stands, and the place after the call.
@@ -21,7 +22,7 @@ pub enum Call {
     Settings(usize, usize),
     Request(usize, usize, usize),
     Return(u32, usize),
-    Refused(Refusal),
+    Refused(Fault),
 }
 
 // The length of a sheet, and that sheet.
@@ -32,7 +33,10 @@ pub fn sheet(s: &[u8], at: usize) -> Span
         Field::Got(n, next) => {
             let size = n as usize;
             if s.len() - next < size {
-                return Span::Refused(Refusal::SheetEnds);
+                return Span::Refused(Fault {
+                    refusal: Refusal::SheetEnds,
+                    place: s.len(),
+                });
             }
             Span::Part(next, next + size)
         }
@@ -99,7 +103,10 @@ fn follow(s: &[u8], call: u32, at: usize) -> Call
     if call == 4 {
         return give_back(s, at);
     }
-    Call::Refused(Refusal::WrongKind)
+    Call::Refused(Fault {
+        refusal: Refusal::WrongKind,
+        place: 0,
+    })
 }
 
 // One call. Where it is refused with 1, more bytes may complete it.

@@ -5,9 +5,9 @@ use mathlib.Core.List.{List}
 use Prim.Native.Nat.{ℕ, _≤_, _<_}
 use borrow.Author.Tests.{lt-ltb, le-ltb, eq-eqb, ne-eqb}
 use Rattle.basics.proofs.Choice.{pick-true, pick-false}
-use Rattle.field.specs.Refusal.{numberOf}
-use Rattle.field.specs.declared.Refusal.{Refusal}
-use Rattle.field.specs.Sheet.{Out}
+use Rattle.field.specs.Refusal.{noteOf}
+use Rattle.field.specs.declared.Fault.{Fault}
+use Rattle.field.specs.Sheet.{unplaced, Out}
 use Rattle.field.specs.declared.Verdict.the-variants.{Accepted, Refused}
 use Rattle.settings.specs.declared.Settings.{Settings}
 use Rattle.settings.specs.declared.Table.{Table}
@@ -32,11 +32,11 @@ module _ (u : Unit) where
   tenancy-free h = pick-false _ _ h
 
   module _ (t : ℕ) where
-    pub rent-rented : u .rented ≡ true → rent u t ≡ refuses u 12
+    pub rent-rented : u .rented ≡ true → rent u t ≡ refuses u (unplaced 12)
     unfolding rent
     rent-rented h = pick-true _ _ h
 
-    pub rent-low : u .rented ≡ false → t ≤ u .last → rent u t ≡ refuses u 13
+    pub rent-low : u .rented ≡ false → t ≤ u .last → rent u t ≡ refuses u (unplaced 13)
     unfolding rent
     rent-low h l = pick-false _ _ h ∙ pick-false _ _ (le-ltb _ _ l)
 
@@ -59,11 +59,11 @@ module _ (u : Unit) where
     unfolding returned
     back-anew h q x e = back-taken h q ∙ ap (λ y. takes (record { number = u .number; last = u .last; rented = false; table = y })) (sym e)
 
-    pub back-other : u .rented ≡ true → (t ≡ u .last → ⊥) → giveBack u t ≡ refuses u 14
+    pub back-other : u .rented ≡ true → (t ≡ u .last → ⊥) → giveBack u t ≡ refuses u (unplaced 14)
     unfolding giveBack _&&_
     back-other h e = rw (h, ne-eqb t (u .last) e) (pick-false _ _ refl)
 
-    pub back-free : u .rented ≡ false → giveBack u t ≡ refuses u 14
+    pub back-free : u .rented ≡ false → giveBack u t ≡ refuses u (unplaced 14)
     unfolding giveBack _&&_
     back-free h = rw h (pick-false _ _ refl)
 
@@ -74,7 +74,7 @@ module _ (u : Unit) where
     unfolding settled toldBy
     settled-accepted e = ap (settled u) (sym (ap (λ a. toldBy n a (r .table)) (sym e) ∙ h .answer))
 
-    pub settled-refused : (e : Refusal) → r .answer ≡ Refused e → settled u o ≡ refuses u (numberOf e)
+    pub settled-refused : (e : Fault) → r .answer ≡ Refused e → settled u o ≡ refuses u (noteOf e)
     unfolding settled toldBy
     settled-refused e q = ap (settled u) (sym (ap (λ a. toldBy n a (r .table)) (sym q) ∙ h .answer))
 

@@ -1,6 +1,7 @@
 -- Laws of the answer to a read request.
 --     replied               what the planner answered for the tenancy that was found
 --     replied-as, replied-within     an answer that is known; a sheet lies within the buffer
+--     replied-enough        a buffer of the length that 11 told is enough
 --     replied-read          the bytes of an accepted request, read for this unit and tenancy, are those of its plan
 --     replied-greatest      demand 3: the time on the sheet is the least time, and the greatest earliest time, of the case
 --     replied-received      and what the plan reader hands out is the plan
@@ -12,7 +13,10 @@ use Rattle.basics.specs.Limits.{blocksMost}
 use Rattle.model.specs.Case.{Case}
 use Rattle.model.specs.Time.{LeastTime, GreatestEarliest}
 use Rattle.field.specs.declared.Written.{Written}
-use Rattle.field.specs.declared.Written.the-variants.{Length}
+use Rattle.field.specs.declared.Fault.{Fault}
+use Rattle.field.specs.declared.Refusal.the-variants.{NoRoom}
+use Rattle.field.specs.declared.Written.the-variants.{Length, Refused}
+use Rattle.field.specs.Send.{toldWritten}
 use Rattle.field.specs.Sheet.{got}
 use Rattle.plan.specs.declared.Answer.{Answer}
 use Rattle.plan.specs.declared.Answer.the-variants.{Accepted}
@@ -22,6 +26,7 @@ use Rattle.plan.specs.Receive.{Received}
 use Rattle.planner.specs.Answered.{Answered, handed}
 use Rattle.planner.specs.Asked.{asked, PlanFor}
 use Rattle.planner.proofs.Answers.{answered-sheet}
+use Rattle.planner.proofs.Enough.{answered-enough}
 use Rattle.planner.proofs.ReadBack.{answered-read, answered-greatest, answered-received}
 use Rattle.unit.specs.declared.Requested.{Requested}
 use Rattle.unit.specs.declared.Unit.{Unit}
@@ -44,6 +49,11 @@ module _ {u : Unit} {s out after : List ℕ} where
 
   pub replied-within : {r : Requested} {n : ℕ} → Replied u s out r after → r .answer ≡ Length n → n ≤ length out
   replied-within a h = answered-sheet (replied-as a h) .within
+
+  -- a buffer of the length that 11 told is enough
+  pub replied-enough : {out′ after′ : List ℕ} {r r′ : Requested} {f : Fault} → Replied u s out r after → r .answer ≡ Refused f
+      → f .refusal ≡ NoRoom → Replied u s out′ r′ after′ → f .place ≤ length out′ → toldWritten (r′ .answer) ≡ got tt (f .place)
+  replied-enough a h q b l = answered-enough (u .number) (tenancyOf u) (u .table) s (replied-as a h) q (b .reply) l
 
   -- a sound unit, numbers of 32 bits, and a request that was answered with n bytes
   module _ (w : Sound u) (i : u .number < 2 ^ 32) (j : tenancyOf u < 2 ^ 32) {r : Requested} (a : Replied u s out r after)

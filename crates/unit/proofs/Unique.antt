@@ -2,10 +2,10 @@
 use mathlib.Core.Path.{_≡_, refl, sym, ap, _∙_}
 use mathlib.Core.List.{List}
 use Prim.Native.Nat.{ℕ}
-use Rattle.field.specs.Refusal.{numberOf}
+use Rattle.field.specs.Refusal.{noteOf}
 use Rattle.field.specs.declared.Verdict.{Verdict}
 use Rattle.field.specs.declared.Verdict.the-variants.{Accepted, Refused}
-use Rattle.field.proofs.Unique.{number-injective}
+use Rattle.field.proofs.Unique.{note-injective}
 use Rattle.planner.proofs.Unique.{plan-into-unique}
 use Rattle.unit.specs.declared.Done.{Done}
 use Rattle.unit.specs.declared.Requested.{Requested}
@@ -20,7 +20,7 @@ unfolding toldVerdict
 told-injective Accepted Accepted h = refl
 told-injective Accepted (Refused e) h = cc
 told-injective (Refused e) Accepted h = cc
-told-injective (Refused e) (Refused f) h = let n : numberOf e ≡ numberOf f = cc in ap Refused (number-injective e f n)
+told-injective (Refused e) (Refused f) h = let n : noteOf e ≡ noteOf f = cc in ap Refused (note-injective e f n)
 
 -- `rent`, `settings` and `give_back`: whatever the definition says, one answer with one unit says it
 pub done-unique : (o : Outcome) (a b : Done) → told a ≡ o → told b ≡ o → a ≡ b

@@ -1,5 +1,5 @@
 -- The unit's life: each call takes the unit and hands the unit back.
---     Verdict       accepted, or a refusal's number
+--     Verdict       accepted, or a refusal
 --     Outcome       a verdict, and the unit afterwards
 --     rent, set, giveBack     what each call comes to
 use Prim.Native.Nat.{ℕ}
@@ -7,7 +7,7 @@ use mathlib.Core.Bool.{_&&_}
 use mathlib.Core.List.{List}
 use lib.Dec.{eqb, ltb}
 use Rattle.basics.specs.Choice.{pick}
-use Rattle.field.specs.Sheet.{Out, got, refused as refusedSheet}
+use Rattle.field.specs.Sheet.{Note, unplaced, Out, got, refused as refusedSheet}
 use Rattle.settings.specs.declared.Table.{Table}
 use Rattle.settings.specs.Sheet.{settingsSheet}
 use Rattle.unit.specs.declared.Unit.{Unit}
@@ -15,7 +15,7 @@ use Rattle.unit.specs.Unit.{tenancyOf, tenanted, withTable, returned}
 
 pub data Verdict : Type 0 where
   accepted : Verdict
-  refused : ℕ → Verdict
+  refused : Note → Verdict
 
 pub record Outcome : Type 0 where
   pub verdict : Verdict
@@ -26,12 +26,12 @@ unfoldable pub takes : Unit → Outcome
 takes u = record { verdict = accepted; unit = u }
 
 -- refused, with the unit as it was
-unfoldable pub refuses : Unit → ℕ → Outcome
+unfoldable pub refuses : Unit → Note → Outcome
 refuses u n = record { verdict = refused n; unit = u }
 
 -- Rent t: 12 while rented, 13 if t is not above the last tenancy
 unfoldable pub rent : Unit → ℕ → Outcome
-rent u t = pick (u .rented) (refuses u 12) (pick (ltb (u .last) t) (takes (tenanted u t)) (refuses u 13))
+rent u t = pick (u .rented) (refuses u (unplaced 12)) (pick (ltb (u .last) t) (takes (tenanted u t)) (refuses u (unplaced 13)))
 
 -- what a settings sheet said
 unfoldable pub settled : Unit → Out Table → Outcome
@@ -44,4 +44,4 @@ set u s = settled u (settingsSheet (u .number) (tenancyOf u) s 0)
 
 -- Return t: 14 while not rented, or of another tenancy
 unfoldable pub giveBack : Unit → ℕ → Outcome
-giveBack u t = pick (u .rented && eqb t (u .last)) (takes (returned u)) (refuses u 14)
+giveBack u t = pick (u .rented && eqb t (u .last)) (takes (returned u)) (refuses u (unplaced 14))

@@ -1,4 +1,5 @@
 // The unit's life: each call takes the unit and hands the unit back.
+use field::Fault;
 use field::Refusal;
 use field::Verdict;
 use field::Written;
@@ -63,13 +64,19 @@ impl Unit {
     {
         if self.rented {
             return Done {
-                answer: Verdict::Refused(Refusal::Rented),
+                answer: Verdict::Refused(Fault {
+                    refusal: Refusal::Rented,
+                    place: 0,
+                }),
                 unit: self,
             };
         }
         if tenancy <= self.last {
             return Done {
-                answer: Verdict::Refused(Refusal::NotAbove),
+                answer: Verdict::Refused(Fault {
+                    refusal: Refusal::NotAbove,
+                    place: 0,
+                }),
                 unit: self,
             };
         }
@@ -128,7 +135,10 @@ impl Unit {
             }
         }
         Done {
-            answer: Verdict::Refused(Refusal::NotTheTenant),
+            answer: Verdict::Refused(Fault {
+                refusal: Refusal::NotTheTenant,
+                place: 0,
+            }),
             unit: self,
         }
     }

@@ -1,6 +1,6 @@
 -- Calls in the shelf's stream.
 use mathlib.Core.Path.{_≡_, refl}
-use Rattle.field.specs.Sheet.{got, refused}
+use Rattle.field.specs.Sheet.{note, unplaced, got, refused}
 use Rattle.stream.specs.Call.{rents, sets, returns, asked}
 use Rattle.vectors.specs.Text.{bytes}
 use Rattle.vectors.proofs.Opened.{stream-opened}
@@ -21,16 +21,16 @@ unfolding stream-opened
 call-return = refl
 
 -- no such call
-call-5 : asked (bytes "05 AC 02") 0 ≡ refused 3
+call-5 : asked (bytes "05 AC 02") 0 ≡ refused (unplaced 3)
 unfolding stream-opened
 call-5 = refl
 
 -- a sheet that is not whole yet: more bytes may complete it
-call-more : asked (bytes "02 03 AA BB") 0 ≡ refused 1
+call-more : asked (bytes "02 03 AA BB") 0 ≡ refused (note 1 4)
 unfolding stream-opened
 call-more = refl
 
 -- a length of 9,230
-pub call-length : asked (bytes "02 8E 48") 0 ≡ refused 6
+pub call-length : asked (bytes "02 8E 48") 0 ≡ refused (note 6 1)
 unfolding stream-opened
 call-length = refl

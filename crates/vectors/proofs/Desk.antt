@@ -2,6 +2,7 @@
 use Prim.Native.Nat.{_+_, _*_, _^_}
 use mathlib.Core.Path.{_≡_, refl}
 use lib.ListN.{replicate}
+use Rattle.field.specs.Sheet.{unplaced}
 use Rattle.field.specs.Send.{none, sheet}
 use Rattle.desk.specs.Desk.{settingsDraftOfBytes, requestDraftOfBytes, PlanRead}
 use Rattle.vectors.specs.Text.{bytes}
@@ -17,7 +18,7 @@ unfolding desk-opened
 settings-lowest-first = refl
 
 -- a list broken inside a number
-pub settings-broken : settingsDraftOfBytes 7 300 (bytes "04 00 00 00 03") (bytes "00 00 00 00") (bytes "01 00 00 00") ≡ none 6
+pub settings-broken : settingsDraftOfBytes 7 300 (bytes "04 00 00 00 03") (bytes "00 00 00 00") (bytes "01 00 00 00") ≡ none (unplaced 6)
 unfolding desk-opened
 settings-broken = refl
 
@@ -29,7 +30,7 @@ unfolding desk-opened
 request-disk-63 = refl
 
 -- a list broken inside a number
-pub request-broken : requestDraftOfBytes 7 300 3 (bytes "03 00 00 00") ≡ none 6
+pub request-broken : requestDraftOfBytes 7 300 3 (bytes "03 00 00 00") ≡ none (unplaced 6)
 unfolding desk-opened
 request-broken = refl
 
@@ -42,7 +43,8 @@ pub plan-example :
 unfolding desk-opened
 plan-example = record { answer = refl; blocks = refl; members = refl }
 
--- an odd last byte is not used: seven bytes are room for three
-pub plan-odd-byte : PlanRead 7 300 plan (replicate 4 0xEE) (replicate 7 0xEE) 11 (replicate 4 0xEE) (replicate 7 0xEE)
+-- an odd last byte is not used: seven bytes are room for three, and four are needed
+pub plan-odd-byte :
+    PlanRead 7 300 plan (replicate 4 0xEE) (replicate 7 0xEE) (11 + 4 * 2 ^ 32) (replicate 4 0xEE) (replicate 7 0xEE)
 unfolding desk-opened
 plan-odd-byte = record { answer = refl; blocks = refl; members = refl }

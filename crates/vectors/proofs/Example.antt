@@ -10,7 +10,7 @@ use Rattle.model.specs.Figures.{asked}
 use Rattle.model.specs.Plan.{Optimal}
 use Rattle.field.specs.declared.Written.the-variants.{Length}
 use Rattle.basics.specs.Lists.{All, Rises, listed}
-use Rattle.field.specs.Sheet.{got, refused}
+use Rattle.field.specs.Sheet.{note, got, refused}
 use Rattle.settings.specs.Table.{table, diskRows, costs}
 use Rattle.planner.specs.Asked.{startOf, tableCase, PlanFor}
 use Rattle.unit.specs.Request.{Replied}
@@ -86,9 +86,18 @@ serve-example : Comes (shelfOf ready) (bytes "03 0F 11" ++ request) false (due t
 unfolding program-opened plan-opened
 serve-example = (refl, refl, (planned (got tt 15) plan-sheet, ready, (got plan 17, (plan, plan-example, refl), refl, refl), refl, refl))
 
--- and 11 where fourteen are
+-- and 11 where fourteen are, with the fifteen that are needed
 serve-no-room : Comes (shelfOf ready) (bytes "03 0E 11" ++ request) false (due true (bytes "03 0E 11" ++ request) 0) Served 20
-    (ascii "refused 11\n") (shelfOf ready)
+    (ascii "refused 11 15\n") (shelfOf ready)
 unfolding program-opened plan-opened
-serve-no-room =
-    (refl, refl, (planned (refused 11) (replicate 14 0), ready, (got plan 17, (plan, plan-example, refl), refl, refl), refl, refl))
+serve-no-room = (
+  refl,
+  refl,
+  (
+    planned (refused (note 11 15)) (replicate 14 0),
+    ready,
+    (got plan 17, (plan, plan-example, refl), refl, refl),
+    refl,
+    refl,
+  ),
+)

@@ -13,4 +13,5 @@ mod Figures
 mod Example
 mod Engine
 mod RuledOut
+mod Places
 mod WrongFigures

@@ -1,7 +1,7 @@
 -- The lines that the programs print.
 use mathlib.Core.Path.{_≡_, refl}
 use mathlib.Core.List.{[]}
-use Rattle.line.specs.declared.Word.the-variants.{Refused}
+use Rattle.line.specs.declared.Word.the-variants.{Refused, RefusedAt}
 use Rattle.line.specs.Line.{spoken, planLine, sheetLine}
 use Rattle.line.specs.Text.{ascii}
 use Rattle.vectors.proofs.Opened.{line-opened}
@@ -14,6 +14,11 @@ use Rattle.vectors.proofs.Plan.{example as sheet}
 refused-6 : spoken (Refused 6) ≡ ascii "refused 6\n"
 unfolding line-opened
 refused-6 = refl
+
+-- with its place
+refused-16-11 : spoken (RefusedAt 16 11) ≡ ascii "refused 16 11\n"
+unfolding line-opened
+refused-16-11 = refl
 
 -- ---- plan_line
 

@@ -2,7 +2,7 @@
 use Rattle.basics.specs.Choice.{pick}
 use Rattle.number.specs.Decode.{under, more, decode}
 use Rattle.number.specs.Encode.{encodeBy, encode, widthOf, fits, written, putFirst}
-use Rattle.field.specs.Sheet.{andThen, _>>=_, _>>_, pure, require, times}
+use Rattle.field.specs.Sheet.{andThen, _>>=_, _>>_, pure, here, require, times}
 use Rattle.basics.specs.Lists.{listed}
 use Rattle.field.specs.Field.{taken, number, between, ascending, kind, addressed, opening, end, whole}
 use Rattle.field.specs.Put.{spellAll, hasRoom, openingBytes}
@@ -21,7 +21,7 @@ use Rattle.request.specs.Draft.{blockBytes, headingBytes, requestBytes, checked
 use Rattle.request.specs.Request.{lastDisk, block, heading, requestSheet}
 use Rattle.plan.specs.Draft.{planNumbers, planBytes, planDraft, counted as countedPlan}
 use Rattle.plan.specs.Plan.{ifAny, timeOf, sizeOf, listsOf, planFields, planSheet}
-use Rattle.plan.specs.Receive.{roomFor, ifRoom, heads, disksLeft, shortLeft}
+use Rattle.plan.specs.Receive.{ifRoom, heads, disksLeft, shortLeft}
 use Rattle.plan.specs.Told.{toldPlan}
 use Rattle.unit.specs.Life.{takes, refuses, rent, settled, set, giveBack}
 use Rattle.planner.specs.Answered.{draftOf}
@@ -29,7 +29,7 @@ use Rattle.planner.specs.Asked.{caseIn, Plans, asked as askedCase}
 use Rattle.unit.specs.Unit.{newUnit, tenancyOf, tenanted, returned}
 use Rattle.desk.specs.Desk.{settingsDraftOfBytes, requestDraftOfBytes, planIfRoom, setLeft}
 use Rattle.lent.specs.Numbers.{valueOf, bytesOf, firstNumbers, numbers, broken}
-use Rattle.lent.specs.Packed.{packPlan, readerAnswer}
+use Rattle.lent.specs.Packed.{packPlan, packRefused, writerAnswer, readerAnswer}
 use Rattle.line.specs.Text.{digit, digitsBy, decimal, spaced, pair, hex}
 use Rattle.line.specs.Line.{feed, word-returned, word-refused, word-stopped, word-plan, bar, spoken, planText, planLine, sheetLine}
 use Rattle.stream.specs.Frame.{sheet, bytes as framed}
@@ -45,7 +45,7 @@ number-opened = Unit
 
 unfoldable pub field-opened : Type 0
 unfolding
-    number-opened andThen _>>=_ _>>_ pure require times taken number between ascending kind addressed opening end whole listed
+    number-opened andThen _>>=_ _>>_ pure here require times taken number between ascending kind addressed opening end whole listed
     spellAll paste hasRoom openingBytes toldWritten answerTo leftBy
 field-opened = Unit
 
@@ -64,7 +64,7 @@ request-opened = Unit
 unfoldable pub plan-opened : Type 0
 unfolding
     field-opened planNumbers planBytes countedPlan planDraft ifAny timeOf sizeOf listsOf planFields planSheet
-    roomFor ifRoom heads over disksLeft shortLeft toldPlan
+    ifRoom heads over disksLeft shortLeft toldPlan
 plan-opened = Unit
 
 unfoldable pub unit-opened : Type 0
@@ -76,7 +76,7 @@ unit-opened = Unit
 unfoldable pub desk-opened : Type 0
 unfolding
     settings-opened request-opened plan-opened settingsDraftOfBytes requestDraftOfBytes planIfRoom setLeft
-    valueOf bytesOf firstNumbers numbers broken packPlan readerAnswer
+    valueOf bytesOf firstNumbers numbers broken packPlan packRefused writerAnswer readerAnswer
 desk-opened = Unit
 
 unfoldable pub line-opened : Type 0

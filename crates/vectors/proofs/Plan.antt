@@ -7,8 +7,9 @@ use mathlib.Core.List.{List, [], _∷_}
 use lib.ListN.{replicate}
 use Rattle.field.specs.declared.Refusal.the-variants.{NoRoom}
 use Rattle.field.specs.declared.Written.the-variants.{Length, Refused}
+use Rattle.field.specs.Refusal.{faultAt}
 use Rattle.field.specs.Send.{sheet, Sent}
-use Rattle.field.specs.Sheet.{refused}
+use Rattle.field.specs.Sheet.{note, refused}
 use Rattle.plan.specs.declared.Answer.the-variants.{Accepted}
 use Rattle.plan.specs.Draft.{planDraft}
 use Rattle.plan.specs.Plan.{Plan, planSheet}
@@ -25,7 +26,7 @@ plan = record { time = 9; disks = 0 ∷ 0 ∷ 1 ∷ 1 ∷ []; short = 0 ∷ 1 �
 -- ---- read
 
 -- block 2 of two blocks
-pub block-at-q : planSheet 7 300 (bytes "03 07 AC 02 02 09 00 01 01 02") 0 ≡ refused 6
+pub block-at-q : planSheet 7 300 (bytes "03 07 AC 02 02 09 00 01 01 02") 0 ≡ refused (note 16 9)
 unfolding plan-opened
 block-at-q = refl
 
@@ -51,6 +52,6 @@ unfolding plan-opened
 write-exact = record { answer = refl; held = refl }
 
 -- one byte less is 11, and the buffer is as it was
-write-no-room : Sent (planDraft 7 300 plan) (replicate 14 0xEE) (Refused NoRoom) (replicate 14 0xEE)
+write-no-room : Sent (planDraft 7 300 plan) (replicate 14 0xEE) (Refused (faultAt NoRoom 15)) (replicate 14 0xEE)
 unfolding plan-opened
 write-no-room = record { answer = refl; held = refl }

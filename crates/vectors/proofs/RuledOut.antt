@@ -8,7 +8,8 @@ use lib.ListN.{getD, length, replicate}
 use Rattle.field.specs.declared.Refusal.the-variants.{NoRoom}
 use Rattle.field.specs.declared.Written.{Written}
 use Rattle.field.specs.declared.Written.the-variants.{Length, Refused}
-use Rattle.field.specs.Sheet.{Out, got, refused}
+use Rattle.field.specs.Sheet.{note, unplaced, Out, got, refused}
+use Rattle.field.specs.Refusal.{faultAt}
 use Rattle.field.specs.Send.{Draft, sheet, none, Sent}
 use Rattle.field.proofs.Sends.{sent-unique}
 use Rattle.settings.specs.declared.Table.{Table}
@@ -43,21 +44,25 @@ use Rattle.vectors.proofs.Engine.{copies, costs, starts, blank, plan-p5
 use Rattle.vectors.proofs.Desk as desk
 use Rattle.vectors.proofs.Call as call
 
--- what tells two answers apart: the refusal's number, or 0; the verdict's; the bytes of a draft, entry by entry
+-- what tells two answers apart: the refusal's number and place, or 0; the verdict's; the bytes of a draft, entry by entry
 unfoldable numbered : {A : Type 0} → Out A → ℕ
 numbered (got a e) = 0
-numbered (refused n) = n
+numbered (refused n) = n .number
+
+unfoldable placed : {A : Type 0} → Out A → ℕ
+placed (got a e) = 0
+placed (refused n) = n .place
 
 unfoldable by : Verdict → ℕ
 by accepted = 0
-by (refusedWith n) = n
+by (refusedWith n) = n .number
 
 unfoldable judged : Outcome → ℕ
 judged o = by (o .verdict)
 
 unfoldable byte : ℕ → Draft → ℕ
 byte i (sheet bs) = getD bs i 0
-byte i (none e) = 1000 + e
+byte i (none e) = 1000 + e .number
 
 -- two answers to one question that differ in some number
 apart : {A : Type 0} {x y z : A} (f : A → ℕ) → x ≡ y → x ≡ z → f y ≡ f z
@@ -74,7 +79,7 @@ load-and-delay-exchanged : settingsDraft 7 300 (4 ∷ 3 ∷ 10 ∷ []) (0 ∷ 2 
 unfolding desk-opened numbered judged by byte
 load-and-delay-exchanged h = let z : _≡_ {A = ℕ} 0 1 = apart (byte 6) settings.draft-example h in omega (arith, z)
 
-settings-eleven-that-already-wrote : Sent (settingsDraft 7 300 (4 ∷ []) (0 ∷ []) (1 ∷ [])) (replicate 7 0xEE) (Refused NoRoom)
+settings-eleven-that-already-wrote : Sent (settingsDraft 7 300 (4 ∷ []) (0 ∷ []) (1 ∷ [])) (replicate 7 0xEE) (Refused (faultAt NoRoom 8))
     (bytes "01 07 AC 02 01 04 00") → ⊥
 unfolding desk-opened numbered judged by byte
 settings-eleven-that-already-wrote w =
@@ -83,23 +88,23 @@ settings-eleven-that-already-wrote w =
 
 -- ---- request
 
-no-copies-read-as-six : requestSheet 7 300 3 (bytes "02 07 AC 02 01 00") 0 ≡ refused 6 → ⊥
+no-copies-read-as-six : requestSheet 7 300 3 (bytes "02 07 AC 02 01 00") 0 ≡ refused (note 6 5) → ⊥
 unfolding desk-opened numbered judged by byte
 no-copies-read-as-six h = let z : _≡_ {A = ℕ} 7 6 = apart numbered request.no-copies h in omega (arith, z)
 
-six-and-eight-exchanged : requestSheet 7 300 3 (bytes "02 07 AC 02 01 01 03") 0 ≡ refused 8 → ⊥
+sixteen-and-eight-exchanged : requestSheet 7 300 3 (bytes "02 07 AC 02 01 01 03") 0 ≡ refused (note 8 6) → ⊥
 unfolding desk-opened numbered judged by byte
-six-and-eight-exchanged h = let z : _≡_ {A = ℕ} 6 8 = apart numbered request.disk-at-n h in omega (arith, z)
+sixteen-and-eight-exchanged h = let z : _≡_ {A = ℕ} 16 8 = apart numbered request.disk-at-n h in omega (arith, z)
 
-no-copies-written-as-six : requestDraft 7 300 3 (3 ∷ 0 ∷ []) ≡ none 6 → ⊥
+no-copies-written-as-six : requestDraft 7 300 3 (3 ∷ 0 ∷ []) ≡ none (unplaced 6) → ⊥
 unfolding desk-opened numbered judged by byte
 no-copies-written-as-six h = let z : _≡_ {A = ℕ} 1007 1006 = apart (byte 0) request.draft-no-copies h in omega (arith, z)
 
 -- ---- plan
 
-six-as-eight : planSheet 7 300 (bytes "03 07 AC 02 02 09 00 01 01 02") 0 ≡ refused 8 → ⊥
+sixteen-as-eight : planSheet 7 300 (bytes "03 07 AC 02 02 09 00 01 01 02") 0 ≡ refused (note 8 9) → ⊥
 unfolding desk-opened numbered judged by byte
-six-as-eight h = let z : _≡_ {A = ℕ} 6 8 = apart numbered plan.block-at-q h in omega (arith, z)
+sixteen-as-eight h = let z : _≡_ {A = ℕ} 16 8 = apart numbered plan.block-at-q h in omega (arith, z)
 
 q-for-m : planDraft 7 300 (record { time = 10; disks = 2 ∷ 0 ∷ 0 ∷ []; short = 0 ∷ [] })
     ≡ sheet (bytes "03 07 AC 02 03 0A 02 00 00 03 00") → ⊥
@@ -113,7 +118,7 @@ entries-beyond-m w =
     let e = read-unique _ _ _ _ _ _ _ _ _ _ plan.lists-filled w .2 in
     let z : _≡_ {A = ℕ} 99 0 = ap (λ (l : List ℕ). getD l 4 0) e in omega (arith, z)
 
-exact-room-refused : Sent (planDraft 7 300 plan.plan) (replicate 15 0xEE) (Refused NoRoom) (replicate 15 0xEE) → ⊥
+exact-room-refused : Sent (planDraft 7 300 plan.plan) (replicate 15 0xEE) (Refused (faultAt NoRoom 15)) (replicate 15 0xEE) → ⊥
 unfolding desk-opened numbered judged by byte
 exact-room-refused w =
     let e = sent-unique _ _ _ _ _ _ plan.write-exact w .1 in
@@ -157,7 +162,7 @@ module _ (after : List ℕ)
   unfolding desk-opened numbered judged by byte
   size-made-up h = let z : _≡_ {A = ℕ} 4 (getD after 10 0) = ap (λ (l : List ℕ). getD l 10 0) the-sheet in omega (arith, z, h)
 
-rented-as-13 : rent unit.ready 299 ≡ record { verdict = refusedWith 13; unit = unit.ready } → ⊥
+rented-as-13 : rent unit.ready 299 ≡ record { verdict = refusedWith (unplaced 13); unit = unit.ready } → ⊥
 unfolding desk-opened numbered judged by byte
 rented-as-13 h = let z : _≡_ {A = ℕ} 12 13 = apart judged unit.rent-rented h in omega (arith, z)
 
@@ -211,6 +216,6 @@ unfolding desk-opened numbered judged by byte
 return-for-rent h =
     let q : got (returns 300) 3 ≡ got (rents 300) 3 = sym call.call-return ∙ h in absurd (let o : _≡_ {A = ℕ} 0 1 = cc in omega arith)
 
-length-awaited : asked (bytes "02 8E 48") 0 ≡ refused 1 → ⊥
+length-awaited : asked (bytes "02 8E 48") 0 ≡ refused (note 1 3) → ⊥
 unfolding desk-opened numbered judged by byte
 length-awaited h = let z : _≡_ {A = ℕ} 6 1 = apart numbered call.call-length h in omega (arith, z)

@@ -7,8 +7,9 @@ use mathlib.Core.List.{List, [], _∷_}
 use lib.ListN.{drop, replicate}
 use Rattle.field.specs.declared.Refusal.the-variants.{NoRoom}
 use Rattle.field.specs.declared.Written.the-variants.{Refused}
+use Rattle.field.specs.Refusal.{faultAt}
 use Rattle.field.specs.Send.{sheet, Sent}
-use Rattle.field.specs.Sheet.{got, refused}
+use Rattle.field.specs.Sheet.{note, got, refused}
 use Rattle.settings.specs.declared.Row.{Row}
 use Rattle.settings.specs.Draft.{settingsDraft}
 use Rattle.settings.specs.Row.{disk}
@@ -49,7 +50,7 @@ unfolding settings-opened
 rows-beyond = refl
 
 -- the tenant before
-pub other-tenancy : settingsSheet 7 301 example 0 ≡ refused 5
+pub other-tenancy : settingsSheet 7 301 example 0 ≡ refused (note 5 2)
 unfolding settings-opened
 other-tenancy = refl
 
@@ -61,6 +62,6 @@ unfolding settings-opened
 draft-example = refl
 
 -- one byte less than the sheet has is 11, and the buffer is as it was
-pub write-no-room : Sent (settingsDraft 7 300 (4 ∷ []) (0 ∷ []) (1 ∷ [])) (replicate 7 0xEE) (Refused NoRoom) (replicate 7 0xEE)
+pub write-no-room : Sent (settingsDraft 7 300 (4 ∷ []) (0 ∷ []) (1 ∷ [])) (replicate 7 0xEE) (Refused (faultAt NoRoom 8)) (replicate 7 0xEE)
 unfolding settings-opened
 write-no-room = record { answer = refl; held = refl }

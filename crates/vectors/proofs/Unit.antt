@@ -5,6 +5,7 @@
 use mathlib.Core.Bool.{true, false}
 use mathlib.Core.Path.{_≡_, refl}
 use mathlib.Core.List.{[], _∷_, map}
+use Rattle.field.specs.Sheet.{note, unplaced}
 use Rattle.settings.specs.Table.{table, noTable}
 use Rattle.unit.specs.declared.Unit.{Unit as Shelf}
 use Rattle.unit.specs.Life.{accepted, refused, rent, set, giveBack}
@@ -39,12 +40,12 @@ tenancies = refl
 -- ---- rent
 
 -- Rent while rented, of a tenancy that is not above the last: 12 before 13
-pub rent-rented : rent ready 299 ≡ record { verdict = refused 12; unit = ready }
+pub rent-rented : rent ready 299 ≡ record { verdict = refused (unplaced 12); unit = ready }
 unfolding unit-opened
 rent-rented = refl
 
 -- the same tenancy again
-pub rent-again : rent back 300 ≡ record { verdict = refused 13; unit = back }
+pub rent-again : rent back 300 ≡ record { verdict = refused (unplaced 13); unit = back }
 unfolding unit-opened
 rent-again = refl
 
@@ -56,7 +57,7 @@ rent-next = refl
 -- ---- settings
 
 -- not rented
-pub set-free : set back settings ≡ record { verdict = refused 5; unit = back }
+pub set-free : set back settings ≡ record { verdict = refused (note 5 2); unit = back }
 unfolding unit-opened
 set-free = refl
 
@@ -68,6 +69,6 @@ unfolding unit-opened
 return-300 = refl
 
 -- of another tenancy
-pub return-other : giveBack ready 299 ≡ record { verdict = refused 14; unit = ready }
+pub return-other : giveBack ready 299 ≡ record { verdict = refused (unplaced 14); unit = ready }
 unfolding unit-opened
 return-other = refl

@@ -1,6 +1,6 @@
 //! Faults, each at any field of a list.
 
-use crate::inputs::fields::{Field, Role};
+use crate::inputs::fields::{bytes, Field, Role};
 use crate::model::{
     MOST_BLOCKS, MOST_COPIES, MOST_COST, MOST_DELAY, MOST_DISKS, MOST_LOAD, MOST_TIME,
 };
@@ -128,6 +128,28 @@ pub fn put(fields: &mut Vec<Field>, place: usize, fault: Fault) {
         }
     };
     fields[place] = damaged;
+}
+
+/// Every truncation of a sheet, bytes after it, and every fault at every field.
+pub fn everywhere(sheet: &[Field]) -> Vec<Vec<u8>> {
+    at_places(sheet, &(0..sheet.len()).collect::<Vec<_>>())
+}
+
+/// As everywhere, with the faults at some fields only.
+pub fn at_places(sheet: &[Field], places: &[usize]) -> Vec<Vec<u8>> {
+    let whole = bytes(sheet);
+    let mut sheets: Vec<Vec<u8>> = (0..=whole.len())
+        .map(|length| whole[..length].to_vec())
+        .collect();
+    sheets.extend([0, 1, 128].map(|byte| [&whole[..], &[byte]].concat()));
+    for fault in FAULTS {
+        for &place in places {
+            let mut damaged = sheet.to_vec();
+            put(&mut damaged, place, fault);
+            sheets.push(bytes(&damaged));
+        }
+    }
+    sheets
 }
 
 /// A random fault at a random field.

@@ -1,13 +1,219 @@
 //! Lines for the desk.
 
+use crate::desk;
 use crate::hex;
 use crate::inputs::damage;
 use crate::inputs::fields;
 use crate::inputs::whole::{self, Case};
-use crate::model::Disk;
+use crate::model::{Disk, Plan, MOST_COST, MOST_DELAY, MOST_LOAD};
 use crate::planner;
 use crate::random::Random;
 use crate::sheets::{write_request, write_settings};
+
+/// What a writer is told: the numbers after the room, then the lists.
+#[derive(Clone)]
+struct Told {
+    writer: &'static str,
+    numbers: Vec<u32>,
+    lists: Vec<Vec<u8>>,
+}
+
+/// One thing that is told otherwise.
+type Change = Box<dyn Fn(&mut Told)>;
+
+impl Told {
+    fn line(&self, room: usize) -> String {
+        let mut words = vec![self.writer.to_string(), room.to_string()];
+        words.extend(self.numbers.iter().map(|number| number.to_string()));
+        words.extend(self.lists.iter().map(|list| hex::word(list)));
+        words.join(" ")
+    }
+
+    /// The length of the sheet, if it is written; else some length.
+    fn length(&self) -> usize {
+        let answer = desk::answer(&self.line(10_000));
+        let words: Vec<&str> = answer.split(' ').collect();
+        match words[..] {
+            ["wrote", length, _] => length.parse().unwrap_or(20),
+            _ => 20,
+        }
+    }
+}
+
+/// Numbers of so many bytes as a list, lowest byte first.
+fn list_of(numbers: &[u64], width: usize) -> Vec<u8> {
+    numbers
+        .iter()
+        .flat_map(|number| number.to_le_bytes()[..width].to_vec())
+        .collect()
+}
+
+fn set_number(at: usize, value: u32) -> Change {
+    Box::new(move |told| told.numbers[at] = value)
+}
+
+fn set_entry(list: usize, entry: usize, width: usize, value: u64) -> Change {
+    Box::new(move |told| {
+        if let Some(bytes) = told.lists[list].get_mut(entry * width..(entry + 1) * width) {
+            bytes.copy_from_slice(&value.to_le_bytes()[..width]);
+        }
+    })
+}
+
+fn lengthen(list: usize, bytes: usize) -> Change {
+    Box::new(move |told| told.lists[list].extend(vec![1; bytes]))
+}
+
+fn shorten(list: usize, bytes: usize) -> Change {
+    Box::new(move |told| {
+        let length = told.lists[list].len().saturating_sub(bytes);
+        told.lists[list].truncate(length);
+    })
+}
+
+/// All lists get so many entries of 1.
+fn resize_all(entries: usize, width: usize) -> Change {
+    Box::new(move |told| {
+        for list in &mut told.lists {
+            *list = list_of(&vec![1; entries], width);
+        }
+    })
+}
+
+/// All lists lose so many bytes, so that they stay of equal length.
+fn shorten_all(bytes: usize) -> Change {
+    Box::new(move |told| {
+        for list in &mut told.lists {
+            list.truncate(list.len().saturating_sub(bytes));
+        }
+    })
+}
+
+/// Each change with rooms of 0, one too few, the exact length and more; every two changes with no room.
+fn changed(told: &Told, changes: &[Change]) -> Vec<String> {
+    let mut lines = Vec::new();
+    let mut rooms = |told: &Told| {
+        let length = told.length();
+        lines.extend([0, length - 1, length, length + 1, length + 9].map(|room| told.line(room)));
+    };
+    rooms(told);
+    for change in changes {
+        let mut once = told.clone();
+        change(&mut once);
+        rooms(&once);
+    }
+    for first in changes {
+        for second in changes {
+            let mut twice = told.clone();
+            first(&mut twice);
+            second(&mut twice);
+            lines.push(twice.line(0));
+        }
+    }
+    lines
+}
+
+/// The settings writer with every value at and past the ends of its range, and lists that are unequal or broken.
+fn settings_lines() -> Vec<String> {
+    let told = Told {
+        writer: "settings",
+        numbers: vec![700, 300],
+        lists: [[4, 300], [0, 70_000], [1, 0]]
+            .map(|list| list_of(&list, 4))
+            .to_vec(),
+    };
+    let mut changes = vec![
+        set_number(1, 0),
+        resize_all(0, 4),
+        resize_all(64, 4),
+        resize_all(65, 4),
+    ];
+    changes.extend((1..4).map(shorten_all));
+    for (list, most) in [MOST_COST, MOST_LOAD, MOST_DELAY].into_iter().enumerate() {
+        let most = u64::from(most);
+        changes.extend([1, 4].map(|bytes| lengthen(list, bytes)));
+        changes.extend([1, 4].map(|bytes| shorten(list, bytes)));
+        for entry in 0..2 {
+            changes.extend([0, most, most + 1].map(|value| set_entry(list, entry, 4, value)));
+        }
+        changes.push(set_entry(list, 0, 4, u64::from(u32::MAX)));
+    }
+    changed(&told, &changes)
+}
+
+/// The request writer with every fault that a block can have, and a list that is broken.
+fn request_lines() -> Vec<String> {
+    let told = Told {
+        writer: "request",
+        numbers: vec![700, 300, 9],
+        lists: vec![list_of(&[3, 256, 384], 8)],
+    };
+    let mut changes = vec![set_number(1, 0)];
+    changes.extend([0, 1, 8, 64, 65, u32::MAX].map(|disks| set_number(2, disks)));
+    changes.extend((1..=8).map(shorten_all));
+    changes.extend([0, 1_024, 1_025].map(|blocks| resize_all(blocks, 8)));
+    let faulty = [0, 255, 511, 512, 1023, 1 << 63, u64::MAX];
+    for block in 0..3 {
+        changes.extend(faulty.map(|copies| set_entry(0, block, 8, copies)));
+    }
+    changed(&told, &changes)
+}
+
+/// The plan reader: damaged sheets with room and without, other units and tenancies, and rooms about the lengths.
+fn plan_lines() -> Vec<String> {
+    let small = plan_of(9, &[0, 0, 1, 1], &[0, 1, 2, 3]);
+    let other = plan_of(1_125_000_000, &[63, 5, 0], &[1]);
+    let mut wide = vec![63; 130];
+    wide[3] = 0;
+    let wide = plan_of(300, &wide, &[127, 129]);
+    let mut lines = Vec::new();
+    for (unit, tenancy, plan) in [
+        (700, 300, plan_of(0, &[], &[])),
+        (7, 1, small),
+        (70_000, 4_000_000_000, other),
+        (0, 300, wide),
+    ] {
+        let (blocks, size) = (plan.disks.len(), plan.short.len());
+        let fields = fields::plan(unit, tenancy, &plan);
+        let sheet = hex::word(&fields::bytes(&fields));
+        for expected in [unit ^ 1, unit ^ 128] {
+            lines.push(format!("plan {expected} {tenancy} {blocks} 300 {sheet}"));
+        }
+        for expected in [0, tenancy ^ 1, tenancy ^ 128] {
+            lines.push(format!("plan {unit} {expected} {blocks} 300 {sheet}"));
+        }
+        for disk_room in [0, blocks.saturating_sub(1), blocks, blocks + 1] {
+            for set_room in [0, size, 2 * size, 2 * size + 1].map(|room| [room, room.max(1) - 1]) {
+                lines.extend(set_room.map(|set_room| {
+                    format!("plan {unit} {tenancy} {disk_room} {set_room} {sheet}")
+                }));
+            }
+        }
+        // A long run of disks needs faults at its ends only.
+        let places: Vec<usize> = (0..fields.len())
+            .filter(|&place| place < 10 || place + 6 > fields.len())
+            .collect();
+        for sheet in damage::at_places(&fields, &places) {
+            let sheet = hex::word(&sheet);
+            lines.push(format!("plan {unit} {tenancy} 1030 2060 {sheet}"));
+            lines.push(format!("plan {unit} {tenancy} 0 0 {sheet}"));
+        }
+    }
+    lines
+}
+
+fn plan_of(time: u32, disks: &[u8], short: &[u16]) -> Plan {
+    Plan {
+        time,
+        disks: disks.to_vec(),
+        short: short.to_vec(),
+    }
+}
+
+/// Every fault at every field of the writers and of the plan reader.
+pub fn systematic() -> Vec<String> {
+    [settings_lines(), request_lines(), plan_lines()].concat()
+}
 
 /// The line of a seed and an index.
 pub fn line(seed: u64, index: u64) -> String {

@@ -4,5 +4,7 @@ pub mod bench;
 pub mod damage;
 pub mod desk;
 pub mod fields;
+#[cfg(test)]
+mod reached;
 pub mod shelf;
 pub mod whole;

@@ -255,13 +255,27 @@ pub fn systematic() -> Vec<Stream> {
 fn in_each_state() -> Vec<Stream> {
     let (table, read) = example_sheets();
     let calls = |kind: &[u8], sheet: &[Field]| -> Stream {
-        let damaged = damaged_sheets(sheet);
+        let damaged = damage::everywhere(sheet);
         damaged
             .iter()
             .map(|sheet| [kind, &shortest(sheet.len() as u32)[..], sheet].concat())
             .collect()
     };
-    let all = [calls(&[3, 99], &read), calls(&[2], &table)].concat();
+    let rooms = |sheet: &[Field]| -> Stream {
+        let rooms = [0, 1, 14, 15, 16, 4_096].map(shortest);
+        let call = |room: &Vec<u8>| [vec![3], room.clone(), bytes(&with_length(sheet))].concat();
+        rooms.iter().map(call).collect()
+    };
+    let nothing = request(700, 300, &[]);
+    let all = [
+        calls(&[3, 99], &read),
+        calls(&[3, 0], &read),
+        calls(&[3, 99], &nothing),
+        calls(&[2], &table),
+        rooms(&read),
+        rooms(&nothing),
+    ]
+    .concat();
     let rent = vec![[shortest(1), shortest(300)].concat()];
     let set = vec![[vec![2], bytes(&with_length(&table))].concat()];
     let back = vec![[shortest(4), shortest(300)].concat()];
@@ -274,22 +288,6 @@ fn in_each_state() -> Vec<Stream> {
     states
         .map(|before| [vec![shortest(700)], before, all.clone()].concat())
         .to_vec()
-}
-
-/// Every truncation of a sheet, and every fault at every field.
-fn damaged_sheets(sheet: &[Field]) -> Vec<Vec<u8>> {
-    let whole = bytes(sheet);
-    let mut sheets: Vec<Vec<u8>> = (0..=whole.len())
-        .map(|length| whole[..length].to_vec())
-        .collect();
-    for fault in FAULTS {
-        for place in 0..sheet.len() {
-            let mut damaged = sheet.to_vec();
-            damage::put(&mut damaged, place, fault);
-            sheets.push(bytes(&damaged));
-        }
-    }
-    sheets
 }
 
 fn example_sheets() -> (Vec<Field>, Vec<Field>) {

@@ -2,6 +2,7 @@
 use borrow.Author.Needs.{needs}
 use native.Mathlib.Omega.{arith}
 use Rattle.field.specs.declared.Refusal.the-variants.{BytesFollow}
+use Rattle.field.specs.Refusal.{faultAt}
 use Rattle.console.proofs.Benching.{close-asks, close-extra, close-stops, tells-refused}
 use Rattle.stream.proofs.Framing.{spans-part, spans-refused}
 use Rattle.stream.specs.Frame.{part}
@@ -31,7 +32,7 @@ returns-2 : tie.Need-returns-2
 returns-2 c =
     let at-from = c .before .before .before .before in
     let at-sheet = at-from .before .before in
-    tells-refused BytesFollow
+    tells-refused (faultAt BytesFollow (at-from .from .given .0 .1 .0))
     (close-extra _ _ _ _ _
     (spans-part (at-sheet .sheet .ensures) (at-from .from .given .1) .0)
     (c .before .before .if1 .left)) (c .refuse .ensures)

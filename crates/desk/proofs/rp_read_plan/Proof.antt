@@ -2,7 +2,7 @@
 use borrow.Author.Needs.{needs}
 use Rattle.basics.specs.Limits.{blocksMost}
 use Rattle.number.specs.Bytes.{Bytes}
-use Rattle.desk.proofs.Reading.{accepted, plans-small, room-part, pairs-fit, read-accepted, read-refused}
+use Rattle.desk.proofs.Reading.{accepted, near, plans-small, room-part, pairs-fit, read-accepted, read-refused}
 use lib.ListN.{drop, replicate}
 use mathlib.Core.List.{_++_}
 use Prim.Native.Nat.{ℕ}
@@ -44,6 +44,16 @@ pack-plan-requires c κs =
     plans-small
     (accepted bytes (at-read .read .ensures) (at-h .h .given .1))
 
+refuse-requires : tie.Need-refuse-requires
+unfolding Bytes
+refuse-requires c κs =
+    let at-read = c .before .before .before .before .before .before in
+    let at-room = at-read .before .before .before in
+    let at-start = at-room .before .before .before .before .before in
+    let bytes : Bytes (at-start .args .sheet .now) = λ i. at-room .before .before .before .before .shared-slice-known .given i .fits in
+    near (at-start .args .unit) (at-start .args .tenancy) (at-start .args .sheet .now) bytes (at-read .read .ensures)
+    (c .before .e .given .1)
+
 returns : tie.Need-returns
 unfolding Bytes
 returns c =
@@ -83,7 +93,7 @@ rp-read-plan-spec =
     put-pairs-requires
     pack-plan-requires
     (λ c. search needs)
-    (λ c κs. search needs)
+    refuse-requires
     (λ c. search needs)
     (λ c. search needs)
     returns

@@ -1,6 +1,6 @@
 -- `rp_write_request`: a list that is broken or too long makes the draft 6; else the draft is the numbers' own, and its length fits.
 use borrow.Author.Needs.{needs}
-use Rattle.desk.proofs.Writing.{exported-refused, exported-sent, short-sent, copies-unusable, request-usable, request-short}
+use Rattle.desk.proofs.Writing.{exported-refused, exported-sent, short-sent, copies-unusable, request-usable, request-drafted}
 use Rattle.basics.specs.Limits.{blocksMost}
 use Rattle.lent.proofs.Tests.{is-usable}
 use Rattle.lent.proofs.Over.{part-numbers, part-count, part-within}
@@ -24,7 +24,7 @@ slice-aggregate-write : tie.Need-slice-aggregate-write
 slice-aggregate-write c = part-count 8 _ _ _ (c .before .eights .ensures)
 
 pack-written-requires : tie.Need-pack-written-requires
-pack-written-requires c κs = short-sent _ _ _ _ (c .before .before .write .ensures) (request-short _ _ _ _)
+pack-written-requires c κs = short-sent _ _ _ _ (c .before .before .write .ensures) (request-drafted _ _ _ _)
 
 returns-2 : tie.Need-returns-2
 returns-2 c =

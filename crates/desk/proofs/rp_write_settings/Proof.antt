@@ -1,7 +1,7 @@
 -- `rp_write_settings`: a list that is broken or too long makes the draft 6; else the draft is the numbers' own, and its length fits.
 use borrow.Author.Needs.{needs}
 use Rattle.desk.proofs.Writing.{exported-refused, exported-sent, short-sent, costs-unusable, loads-unusable, delays-unusable}
-use Rattle.desk.proofs.Writing.{settings-usable, settings-short}
+use Rattle.desk.proofs.Writing.{settings-usable, settings-drafted}
 use Rattle.basics.specs.Limits.{disksMost}
 use Rattle.lent.proofs.Tests.{is-usable}
 use borrow.Author.Tests.{not-true, not-false}
@@ -42,7 +42,7 @@ send-settings-requires c κs =
     )
 
 pack-written-requires : tie.Need-pack-written-requires
-pack-written-requires c κs = short-sent _ _ _ _ (c .before .before .send-settings .ensures) (settings-short _ _ _ _ _)
+pack-written-requires c κs = short-sent _ _ _ _ (c .before .before .send-settings .ensures) (settings-drafted _ _ _ _ _)
 
 returns-4 : tie.Need-returns-4
 returns-4 c =

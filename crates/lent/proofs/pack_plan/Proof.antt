@@ -1,7 +1,7 @@
 -- `pack_plan`: Q and m of 11 bits and R of 31, each moved to its place, fit side by side.
 use borrow.Author.Needs.{needs}
 use native.Mathlib.Omega.{arith}
-use Rattle.lent.proofs.Packed.{small-head, packed-head, packed-not}
+use Rattle.lent.proofs.Packed.{small-head, near-not, packed-head, packed-not}
 use Rattle.lent.proofs.pack_plan.Statement.{statement}
 use Rattle.lent.proofs.pack_plan.Tie as tie
 
@@ -19,6 +19,9 @@ mul-result-3 c = omega (arith, small-head (c .before .before .before .before .pr
 
 add-result-2 : tie.Need-add-result-2
 add-result-2 c = omega (arith, small-head (c .before .before .before .before .pre) (c .before .before .a .given .1))
+
+refuse-requires : tie.Need-refuse-requires
+refuse-requires c κs = near-not (c .before .before .before .pre) (c .before .a2 .given .1)
 
 returns : tie.Need-returns
 returns c = packed-head (c .before .before .a .given .1)
@@ -38,6 +41,6 @@ pack-plan-spec =
     mul-result-3
     add-result-2
     (λ c. search needs)
-    (λ c κs. search needs)
+    refuse-requires
     returns
     returns-2)

@@ -1,7 +1,7 @@
 -- `say`: each word is its own line; the buffer has room for the longest.
 use borrow.Author.Needs.{needs}
 use native.Mathlib.Omega.{arith}
-use Rattle.line.proofs.Lines.{said-word, said-number}
+use Rattle.line.proofs.Lines.{said-word, said-number, said-placed}
 use Rattle.line.specs.Line.{spoken, word-rented, word-set, word-returned, word-refused, word-stopped}
 use mathlib.Core.Path.{ap}
 use Rattle.line.proofs.say.Statement.{statement}
@@ -31,8 +31,13 @@ returns-4 c = said-number word-refused _ (ap spoken (c .before .before .before .
     (omega arith) (c .numbered .ensures)
 
 returns-5 : tie.Need-returns-5
+unfolding spoken word-refused
+returns-5 c = said-placed word-refused _ _ (ap spoken (c .before .before .before .before .w2 .given .1)) (omega arith)
+    (omega arith) (c .placed .ensures)
+
+returns-6 : tie.Need-returns-6
 unfolding spoken word-stopped
-returns-5 c = said-number word-stopped _ (ap spoken (c .before .before .before .before .w2 .given .1)) (omega arith)
+returns-6 c = said-number word-stopped _ (ap spoken (c .before .before .before .before .w3 .given .1)) (omega arith)
     (omega arith) (c .numbered2 .ensures)
 
 pub say-spec : {M : Type 1} → statement M
@@ -54,8 +59,12 @@ say-spec =
     (λ c. search needs)
     (λ c. search needs)
     (λ c κs. search needs)
+    (λ c. search needs)
+    (λ c. search needs)
+    (λ c κs. search needs)
     returns
     returns-2
     returns-3
     returns-4
-    returns-5)
+    returns-5
+    returns-6)

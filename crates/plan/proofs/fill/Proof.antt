@@ -9,7 +9,7 @@ returns : tie.Need-returns
 returns c = λ p e w. few-disks p e _ _ w (omega arith)
 
 returns-2 : tie.Need-returns-2
-returns-2 c = λ p e w. few-members p e _ _ w (omega arith)
+returns-2 c = λ p e w. few-members p e _ _ w (omega arith) (omega arith)
 
 returns-3 : tie.Need-returns-3
 returns-3 c =
@@ -27,7 +27,9 @@ fill-spec =
     tie.close
     (tie.spec
     (λ c. search needs)
+    (λ c. search needs)
     returns
+    (λ c. search needs)
     (λ c. search needs)
     returns-2
     (λ c κs. search needs)

@@ -27,7 +27,7 @@ cast-out : tie.Need-cast-out Inv-loop μ-loop
 unfolding Bytes
 cast-out c = omega (
   arith,
-  between-range 0 (disksMost - 1) 6 6 _ _ (told-got (c .before .before .before .inside .ensures) (c .before .v .given .1)),
+  between-range 0 (disksMost - 1) 16 16 _ _ (told-got (c .before .before .before .inside .ensures) (c .before .v .given .1)),
 )
 
 returns : tie.Need-returns Inv-loop μ-loop

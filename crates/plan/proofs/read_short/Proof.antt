@@ -23,11 +23,11 @@ loop-holds c = (filling-start _ (ascending-start _ _ _ _ _), omega arith)
 
 cast-out : tie.Need-cast-out Inv-loop μ-loop
 unfolding Bytes
-cast-out c = omega (arith, between-range _ _ 8 6 _ _ (told-got (c .before .before .before .rising .ensures) (c .before .v .given .1)))
+cast-out c = omega (arith, between-range _ _ 8 16 _ _ (told-got (c .before .before .before .rising .ensures) (c .before .v .given .1)))
 
 add-floor : tie.Need-add-floor Inv-loop μ-loop
 unfolding Bytes
-add-floor c = omega (arith, between-range _ _ 8 6 _ _ (told-got (c .before .before .before .rising .ensures) (c .before .v .given .1)))
+add-floor c = omega (arith, between-range _ _ 8 16 _ _ (told-got (c .before .before .before .rising .ensures) (c .before .v .given .1)))
 
 returns : tie.Need-returns Inv-loop μ-loop
 returns c = filling-stop (c .before .before .before .before .before .loop .inv .0) _

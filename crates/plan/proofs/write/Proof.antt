@@ -14,7 +14,7 @@ returns-2 c = many-members _ _ _ _ (c .if2 .taken)
 
 returns-3 : tie.Need-returns-3
 returns-3 c = long-sent _ _ _ _ (c .before .before .before .if1 .left) (c .before .before .if2 .left)
-    (omega (arith, c .before .sheet-width .ensures))
+    (c .before .sheet-width .ensures) (omega arith)
 
 put-heading-requires : tie.Need-put-heading-requires
 put-heading-requires c κs =

@@ -18,8 +18,8 @@ returns-2 c = let found = c .before .before in
 
 returns-3 : tie.Need-returns-3
 returns-3 c = let found = c .before .before .before in
-    c .inside .ensures ∙ sym
-    (heading-count _ _ _ _ (told-got (found .before .before .opening .ensures) (found .found .given .1)) (c .before .if1 .left))
+    heading-count _ _ _ _ (told-got (found .before .before .opening .ensures) (found .found .given .1)) (c .before .if1 .left)
+    (c .inside .ensures)
 
 pub heading-spec : {M : Type 1} → statement M
 heading-spec =

@@ -10,7 +10,7 @@ blocks-requires : tie.Need-blocks-requires
 blocks-requires c κs =
     let at-heading = c .before .before .before .before in
     let at-start = at-heading .before .before in (
-      heading-within _ _ _ _ (told-got (at-heading .heading .ensures) (c .before .before .q .given .1)),
+      heading-within _ _ _ _ _ (told-got (at-heading .heading .ensures) (c .before .before .q .given .1)),
       omega (arith, c .last .ensures, last-under (at-start .args .disks)),
     )
 

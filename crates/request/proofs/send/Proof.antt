@@ -6,6 +6,7 @@ use Rattle.request.specs.Draft.{requestBytes}
 use Rattle.field.proofs.Sends.{sent-long}
 use Rattle.number.proofs.Encode.{width-bounds}
 use lib.ListN.{length}
+use mathlib.Core.Path.{sym}
 use Prim.Native.Nat.{_≤_}
 use Rattle.request.proofs.send.Statement.{statement}
 use Rattle.request.proofs.send.Tie as tie
@@ -49,7 +50,7 @@ returns c =
     let at = wide .before .before .before .before .before in
     let long = request-length (at .args .unit) (at .args .tenancy) (at .args .copies .now) (wide .before .before .width .ensures)
     (wide .before .width2 .ensures) (wide .width3 .ensures) (at .pre) in
-    sent-long _ _ (omega (arith, long, c .if1 .taken))
+    sent-long _ _ (sym long) (c .if1 .taken)
 
 put-heading-requires : tie.Need-put-heading-requires
 put-heading-requires c κs =

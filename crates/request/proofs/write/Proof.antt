@@ -2,25 +2,24 @@
 use borrow.Author.Needs.{needs}
 use Rattle.request.proofs.Writing.{draft-tenancy, draft-unset, draft-large, draft-long, draft-of, sent-as, sized-got, sized-refused}
 use Rattle.field.proofs.Sends.{sent-refused}
-use Rattle.field.specs.declared.Refusal.the-variants.{OutOfRange}
 use mathlib.Core.Path.{_∙_}
 use Rattle.request.proofs.write.Statement.{statement}
 use Rattle.request.proofs.write.Tie as tie
 
 returns : tie.Need-returns
-returns c = sent-as (draft-tenancy _ _ _ _ (c .if1 .taken)) (sent-refused OutOfRange _)
+returns c = sent-as (draft-tenancy _ _ _ _ (c .if1 .taken)) (sent-refused _ _)
 
 returns-2 : tie.Need-returns-2
-returns-2 c = sent-as (draft-unset _ _ _ _ (c .before .if1 .left) (c .if2 .taken)) (sent-refused OutOfRange _)
+returns-2 c = sent-as (draft-unset _ _ _ _ (c .before .if1 .left) (c .if2 .taken)) (sent-refused _ _)
 
 returns-3 : tie.Need-returns-3
 returns-3 c = sent-as (draft-large _ _ _ _ (c .before .before .if1 .left) (c .before .if2 .left) (c .if3 .taken))
-    (sent-refused OutOfRange _)
+    (sent-refused _ _)
 
 returns-4 : tie.Need-returns-4
 returns-4 c = sent-as
     (draft-long _ _ _ _ (c .before .before .before .if1 .left) (c .before .before .if2 .left) (c .before .if3 .left) (c .if4 .taken))
-    (sent-refused OutOfRange _)
+    (sent-refused _ _)
 
 send-requires : tie.Need-send-requires
 send-requires c κs = sized-got _ _ (c .before .before .before .before .size .ensures) (c .before .before .n .given .1) .0

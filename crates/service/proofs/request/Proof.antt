@@ -38,7 +38,7 @@ returns c = request-sent _ _ _ _ (lent _ _ (c .before .before .before .before .b
 returns-2 : tie.Need-returns-2
 returns-2 c = request-kept _ _ _ _ (lent _ _ (c .before .before .before .before .before .before .before .before .before .pre .1)) _ _
     (c .before .before .before .before .before .before .request .ensures) _
-    (c .before .before .before .answer2 .given .1) (c .refuse .ensures)
+    (c .before .before .before .answer2 .given .1) (c .refuse-at .ensures)
 
 pub request-spec : {M : Type 1} → statement M
 request-spec =

@@ -11,7 +11,7 @@ returns : tie.Need-returns
 returns c = verdict-taken _ _ (c .before .before .enum-told .given .1) (c .say .ensures)
 
 returns-2 : tie.Need-returns-2
-returns-2 c = verdict-denied _ _ _ (c .before .before .before .answer .given .1) (c .refuse .ensures)
+returns-2 c = verdict-denied _ _ _ (c .before .before .before .answer .given .1) (c .refuse-at .ensures)
 
 pub verdict-spec : {M : Type 1} → statement M
 verdict-spec =

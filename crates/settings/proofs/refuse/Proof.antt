@@ -9,7 +9,7 @@ use Rattle.settings.proofs.refuse.Tie as tie
 
 returns : tie.Need-returns
 unfolding refusedWith
-returns c = ap (λ (t : Table). record { answer = Refused (c .before .args .refusal); table = t }) (c .empty .ensures)
+returns c = ap (λ (t : Table). record { answer = Refused (c .before .args .fault); table = t }) (c .empty .ensures)
 
 pub refuse-spec : {M : Type 1} → statement M
 refuse-spec = tie.close (tie.spec (λ c κs. search needs) returns)

@@ -21,19 +21,19 @@ returns-2 c =
     let fit = lists-fit (sym (c .before .before .before .lists-fit .ensures) ∙ not-false _ (c .before .before .if1 .left)) in
     write-out _ _ _ _ _ _ fit (c .before .rows-width .ensures) (c .if2 .taken)
 
-add-if3 : tie.Need-add-if3
-add-if3 c =
+add-length : tie.Need-add-length
+add-length c =
     let at-start = c .before .before .before .before .before .before .before .before .before in
     omega (arith, width-bounds (at-start .args .unit))
 
-add-if3-2 : tie.Need-add-if3-2
-add-if3-2 c =
+add-length-2 : tie.Need-add-length-2
+add-length-2 c =
     let at-start = c .before .before .before .before .before .before .before .before .before .before in
     let a = at-start .args in
     omega (arith, width-bounds (a .unit), width-bounds (a .tenancy))
 
-add-if3-3 : tie.Need-add-if3-3
-add-if3-3 c =
+add-length-3 : tie.Need-add-length-3
+add-length-3 c =
     let told = c .before .before .before in
     let fit = lists-fit (sym (told .before .before .lists-fit .ensures) ∙ not-false _ (told .before .if1 .left)) in
     let a = told .before .before .before .before .before .before .before .args in
@@ -95,10 +95,10 @@ write-spec =
     rows-width-requires
     returns-2
     (λ c κs. search needs)
-    add-if3
+    add-length
     (λ c κs. search needs)
-    add-if3-2
-    add-if3-3
+    add-length-2
+    add-length-3
     returns-3
     cast-put-heading
     put-heading-requires

@@ -30,7 +30,7 @@ returns-2 c = sheet-spans _ _ _ _ (told-got (c .before .before .before .before .
 
 returns-3 : tie.Need-returns-3
 unfolding Spans
-returns-3 c = sheet-stops _ _ _ (told-refused (c .before .before .before .inside .ensures) (c .before .e .given .1))
+returns-3 c = sheet-stops _ _ (told-refused (c .before .before .before .inside .ensures) (c .before .e .given .1))
 
 pub sheet-spec : {M : Type 1} → statement M
 sheet-spec =

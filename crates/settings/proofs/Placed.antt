@@ -1,0 +1,65 @@
+-- Where a settings sheet is refused, and what is enough where 11 is told.
+--     sheet-placed, read-placed     a byte of the sheet, or its end
+--     write-enough     a buffer of the length that 11 told
+use mathlib.Core.Path.{_≡_, sym, ap, subst, _∙_}
+use mathlib.Core.List.{List}
+use Prim.Native.Nat.{ℕ, _+_, _*_, _≤_}
+use native.Mathlib.Omega.{arith}
+use lib.ListN.{length}
+use Rattle.basics.specs.Limits.{disksMost}
+use Rattle.field.specs.declared.Fault.{Fault}
+use Rattle.field.specs.declared.Refusal.the-variants.{NoRoom}
+use Rattle.field.specs.declared.Verdict.{Verdict}
+use Rattle.field.specs.declared.Verdict.the-variants.{Refused as Denied}
+use Rattle.field.specs.declared.Written.the-variants.{Refused}
+use Rattle.field.specs.Send.{Draft, sheet, none, answerTo, Sent}
+use Rattle.field.specs.Sheet.{Note, got, refused}
+use Rattle.field.proofs.Sends.{Roomless, sent-enough}
+use Rattle.field.proofs.Within.{Within, within-bind, within-then, within-bounded, within-pure, within-more, within-between, within-opening}
+use Rattle.field.proofs.Within.{within-times, within-whole, place-inside}
+use Rattle.settings.specs.Row.{row}
+use Rattle.settings.specs.Sheet.{kinds, heading, body, fields, settingsSheet}
+use Rattle.settings.specs.declared.Settings.{Settings}
+use Rattle.settings.specs.Told.{toldBy, Told}
+use Rattle.settings.specs.Draft.{settingsDraft}
+use Rattle.settings.proofs.Reading.{heading-disks}
+use Rattle.settings.proofs.Writing.{Sheeted, draft-either}
+
+within-row : Within 15 row
+unfolding row
+within-row =
+    within-bind {j = 5} (within-between _ _ _ _) (λ c. within-bind {j = 5} (within-between _ _ _ _) (λ l.
+    within-bind {j = 5} (within-between _ _ _ _) (λ d. within-pure _)))
+
+within-body : (n : ℕ) → n ≤ disksMost → Within (disksMost * 15) (body n)
+unfolding body
+within-body n l = within-more (omega arith) (within-bind (within-times n within-row) (λ rows. within-pure _))
+
+within-heading : (unit t : ℕ) → Within 20 (heading unit t)
+unfolding heading
+within-heading unit t = within-then {j = 15} (within-opening kinds unit t) (within-between _ _ _ _)
+
+pub within-sheet : (unit t : ℕ) → Within (20 + disksMost * 15) (settingsSheet unit t)
+unfolding settingsSheet fields
+within-sheet unit t =
+    within-whole (within-bounded disksMost (within-heading unit t) (λ s at n e h. heading-disks unit t s at h .1) (λ n l. within-body n l))
+
+pub sheet-placed : (unit t : ℕ) (s : List ℕ) {n : Note} → settingsSheet unit t s 0 ≡ refused n → n .place ≤ length s
+sheet-placed unit t s h = place-inside (within-sheet unit t) h
+
+-- the same of what `read` answers
+pub read-placed : (unit t : ℕ) (s : List ℕ) {k : ℕ} {r : Settings} {f : Fault} → Told k (settingsSheet unit t s 0) r
+    → r .answer ≡ Denied f → f .place ≤ length s
+unfolding toldBy
+read-placed unit t s {k} {r} w h =
+    sheet-placed unit t s (sym (w .answer) ∙ ap (λ (a : Verdict). toldBy k a (r .table)) h)
+
+module _ (unit t : ℕ) (cs ls ds : List ℕ) where
+  roomless : Roomless (settingsDraft unit t cs ls ds)
+  unfolding Roomless
+  roomless =
+      draft-either unit t cs ls ds (λ n o e. subst Roomless (sym e) o) (λ w. subst Roomless (sym (w .is)) tt)
+
+  pub write-enough : (out out′ : List ℕ) (f : Fault) (after : List ℕ) → Sent (settingsDraft unit t cs ls ds) out (Refused f) after
+      → f .refusal ≡ NoRoom → f .place ≤ length out′ → answerTo (settingsDraft unit t cs ls ds) out′ ≡ got tt (f .place)
+  write-enough out out′ f after w q l = sent-enough (settingsDraft unit t cs ls ds) out out′ f after roomless w q l

@@ -1,0 +1,482 @@
+//! That the generated inputs reach every refusal at every field, by a walk over the sheets that judges nothing.
+
+use std::collections::{BTreeMap, BTreeSet};
+
+use crate::hex;
+use crate::inputs::{desk as desk_inputs, shelf as shelf_inputs};
+use crate::number::Reader;
+use crate::{desk, shelf};
+
+type Names = BTreeSet<(u32, String)>;
+
+/// The fields of a sheet by name and first byte, as far as the sheet goes; the last may be cut or missing.
+struct Walk {
+    sheet: Vec<u8>,
+    at: usize,
+    fields: Vec<(&'static str, usize)>,
+}
+
+impl Walk {
+    fn new(sheet: &[u8]) -> Self {
+        Walk {
+            sheet: sheet.to_vec(),
+            at: 0,
+            fields: Vec::new(),
+        }
+    }
+
+    fn number(&mut self, name: &'static str) -> Option<u64> {
+        self.fields.push((name, self.at));
+        let mut value = 0u64;
+        for group in 0.. {
+            let byte = *self.sheet.get(self.at)?;
+            self.at += 1;
+            value |= u64::from(byte & 127).checked_shl(7 * group).unwrap_or(0);
+            if byte < 128 {
+                break;
+            }
+        }
+        Some(value)
+    }
+
+    fn head(&mut self) -> Option<()> {
+        self.number("kind")?;
+        self.number("unit")?;
+        self.number("tenancy")?;
+        Some(())
+    }
+
+    fn settings(&mut self) -> Option<()> {
+        self.head()?;
+        for _ in 0..self.number("N")? {
+            self.number("cost")?;
+            self.number("load")?;
+            self.number("delay")?;
+        }
+        self.fields.push(("end", self.at));
+        Some(())
+    }
+
+    fn request(&mut self) -> Option<()> {
+        self.head()?;
+        for _ in 0..self.number("Q")? {
+            let count = self.number("k")?;
+            for copy in 0..count {
+                self.number(if copy == 0 {
+                    "first copy"
+                } else {
+                    "later copy"
+                })?;
+            }
+        }
+        self.fields.push(("end", self.at));
+        Some(())
+    }
+
+    fn plan(&mut self) -> Option<()> {
+        self.head()?;
+        let blocks = self.number("Q")?;
+        self.number("R")?;
+        for _ in 0..blocks {
+            self.number("disk")?;
+        }
+        for block in 0..self.number("m")? {
+            self.number(if block == 0 {
+                "first block"
+            } else {
+                "later block"
+            })?;
+        }
+        self.fields.push(("end", self.at));
+        Some(())
+    }
+}
+
+/// The field that a refusal of a sheet is about; panics where the place is none that the refusal can have.
+fn field(sheet: &[u8], walk: fn(&mut Walk) -> Option<()>, refusal: u32, place: usize) -> String {
+    let mut walked = Walk::new(sheet);
+    walk(&mut walked);
+    let fields = walked.fields;
+    let (last, begins) = *fields.last().expect("there is a first field");
+    match refusal {
+        1 => {
+            assert_eq!(place, sheet.len(), "1 is at the sheet's length");
+            let cut = if begins < place { "inside" } else { "before" };
+            format!("{cut} {last}")
+        }
+        10 => {
+            assert_eq!(fields[3].1, place, "10 is at the byte after the tenancy");
+            "after the tenancy".to_string()
+        }
+        11 => "room".to_string(),
+        _ => {
+            let found = fields.iter().find(|(_, begins)| *begins == place);
+            let found =
+                found.unwrap_or_else(|| panic!("no field at {place} of {}", hex::word(sheet)));
+            found.0.to_string()
+        }
+    }
+}
+
+/// A table of what each field can be refused with; every number can be cut, missing, or badly formed.
+fn expected(table: &[(&str, &[u32])], others: &[(u32, &str)]) -> Names {
+    let mut names = Names::new();
+    for (name, refusals) in table {
+        names.insert((1, format!("inside {name}")));
+        names.insert((1, format!("before {name}")));
+        names.insert((2, name.to_string()));
+        names.extend(refusals.iter().map(|&refusal| (refusal, name.to_string())));
+    }
+    names.extend(
+        others
+            .iter()
+            .map(|(refusal, name)| (*refusal, name.to_string())),
+    );
+    names
+}
+
+const HEAD: [(&str, &[u32]); 3] = [("kind", &[3]), ("unit", &[4]), ("tenancy", &[5])];
+
+fn settings_names() -> Names {
+    let rows: [(&str, &[u32]); 4] = [
+        ("N", &[6]),
+        ("cost", &[15]),
+        ("load", &[15]),
+        ("delay", &[15]),
+    ];
+    expected(&[&HEAD[..], &rows].concat(), &[(9, "end")])
+}
+
+fn request_names() -> Names {
+    let blocks: [(&str, &[u32]); 4] = [
+        ("Q", &[6]),
+        ("k", &[6, 7]),
+        ("first copy", &[16]),
+        ("later copy", &[8, 16]),
+    ];
+    let others = [(9, "end"), (10, "after the tenancy"), (11, "room")];
+    expected(&[&HEAD[..], &blocks].concat(), &others)
+}
+
+fn plan_names() -> Names {
+    let blocks: [(&str, &[u32]); 6] = [
+        ("Q", &[6]),
+        ("R", &[15]),
+        ("disk", &[16]),
+        ("m", &[6]),
+        ("first block", &[16]),
+        ("later block", &[8, 16]),
+    ];
+    expected(&[&HEAD[..], &blocks].concat(), &[(9, "end"), (11, "room")])
+}
+
+/// The number and place of a line `refused N P ..`.
+fn refused(line: &str) -> Option<(u32, usize)> {
+    let mut words = line.strip_prefix("refused ")?.split(' ');
+    let number = words.next()?.parse().ok()?;
+    Some((number, words.next()?.parse().ok()?))
+}
+
+/// The calls of a stream as far as they are whole: the kind, and the sheet of 2 and 3.
+fn calls(stream: &[u8]) -> Vec<(u32, Vec<u8>)> {
+    fn call(reader: &mut Reader) -> Option<(u32, Vec<u8>)> {
+        let kind = reader.number().ok()?;
+        if kind != 2 {
+            reader.number().ok()?;
+        }
+        if kind == 1 || kind == 4 {
+            return Some((kind, Vec::new()));
+        }
+        let length = reader.number().ok()?;
+        Some((kind, reader.take(length as usize).ok()?.to_vec()))
+    }
+    let mut reader = Reader::new(stream);
+    let _ = reader.number();
+    std::iter::from_fn(|| call(&mut reader)).collect()
+}
+
+/// What the streams reach, settings and requests apart.
+fn reached(streams: impl Iterator<Item = Vec<u8>>) -> (Names, Names) {
+    let (mut settings, mut requests) = (Names::new(), Names::new());
+    for stream in streams {
+        let text = String::from_utf8(shelf::lines(&stream)).unwrap();
+        for ((kind, sheet), line) in calls(&stream).iter().zip(text.lines()) {
+            let Some((refusal, place)) = refused(line) else {
+                continue;
+            };
+            match kind {
+                2 => settings.insert((refusal, field(sheet, Walk::settings, refusal, place))),
+                3 => requests.insert((refusal, field(sheet, Walk::request, refusal, place))),
+                _ => {
+                    assert_eq!(place, 0);
+                    true
+                }
+            };
+        }
+    }
+    (settings, requests)
+}
+
+#[test]
+fn the_readers_of_a_unit_are_refused_at_every_field() {
+    let (settings, requests) = reached(
+        shelf_inputs::systematic()
+            .iter()
+            .map(|stream| stream.concat()),
+    );
+    assert_eq!(settings, settings_names());
+    assert_eq!(requests, request_names());
+}
+
+#[test]
+fn random_streams_are_refused_at_no_other_fields() {
+    let streams = (0..400).map(|index| shelf_inputs::stream(5, index).concat());
+    let (settings, requests) = reached(streams);
+    assert!(settings.is_subset(&settings_names()));
+    assert!(requests.is_subset(&request_names()));
+    assert!(settings.len() > 15, "{settings:?}");
+    assert!(requests.len() > 20, "{requests:?}");
+}
+
+/// What is answered to the lines of one word, with the line's other words.
+fn answers(word: &str) -> Vec<(Vec<String>, String)> {
+    let of_word = desk_inputs::systematic().into_iter().filter_map(|line| {
+        let words: Vec<String> = line.split(' ').map(str::to_string).collect();
+        (words[0] == word).then(|| (words, desk::answer(&line)))
+    });
+    of_word.collect()
+}
+
+#[test]
+fn the_plan_reader_is_refused_at_every_field() {
+    let mut names = Names::new();
+    let (mut rooms, mut enough) = (BTreeSet::new(), 0);
+    for (words, answer) in answers("plan") {
+        let sheet = hex::read(&words[5]).unwrap();
+        let Some((refusal, place)) = refused(&answer) else {
+            enough += 1;
+            continue;
+        };
+        names.insert((refusal, field(&sheet, Walk::plan, refusal, place)));
+        if refusal == 11 {
+            rooms.insert(rooms_of(&words, place));
+        }
+    }
+    assert_eq!(names, plan_names());
+    assert!(enough > 20);
+    for wanted in [[1, 0], [2, 0], [0, 1], [0, 2], [1, 1], [2, 2]] {
+        assert!(
+            rooms.iter().any(|(short, _)| *short == wanted),
+            "{wanted:?}"
+        );
+    }
+    for wanted in [[true, false], [false, true], [true, true]] {
+        assert!(rooms.iter().any(|(_, none)| *none == wanted), "{wanted:?}");
+    }
+}
+
+/// How each list is too short (1 by one entry, 2 by more), and which of them have no room at all.
+fn rooms_of(words: &[String], needed: usize) -> ([u8; 2], [bool; 2]) {
+    let sheet = hex::read(&words[5]).unwrap();
+    let mut walk = Walk::new(&sheet);
+    walk.plan();
+    let count = |names: &[&str]| {
+        let of_list = walk.fields.iter().filter(|(name, _)| names.contains(name));
+        of_list.count()
+    };
+    let needs = [count(&["disk"]), count(&["first block", "later block"])];
+    let rooms: [usize; 2] = [words[3].parse().unwrap(), words[4].parse().unwrap()];
+    let entries = [rooms[0], rooms[1] / 2];
+    let short = [0, 1].map(|list| match needs[list].saturating_sub(entries[list]) {
+        0 => 0,
+        1 => 1,
+        _ => 2,
+    });
+    let first = if short[0] > 0 { 0 } else { 1 };
+    assert_eq!(needed, needs[first], "the first list too short");
+    (short, rooms.map(|room| room == 0))
+}
+
+/// What is wrong with what a writer is told, in the order of its checks, each with its refusal.
+type Faults = Vec<(u32, &'static str)>;
+
+fn entries(word: &str, width: usize) -> Option<Vec<u64>> {
+    let bytes = hex::read(word).unwrap();
+    let number = |bytes: &[u8]| {
+        bytes
+            .iter()
+            .rev()
+            .fold(0, |value, &byte| value << 8 | u64::from(byte))
+    };
+    (bytes.len() % width == 0).then(|| bytes.chunks(width).map(number).collect())
+}
+
+fn settings_faults(words: &[String]) -> Faults {
+    let mut faults = Faults::new();
+    if words[3] == "0" {
+        faults.push((6, "tenancy"));
+    }
+    let lengths: BTreeSet<usize> = words[4..7]
+        .iter()
+        .map(|list| hex::read(list).unwrap().len())
+        .collect();
+    if lengths.len() > 1 {
+        faults.push((6, "unequal"));
+    }
+    let lists: Vec<Option<Vec<u64>>> = words[4..7].iter().map(|list| entries(list, 4)).collect();
+    if lists.iter().any(Option::is_none) {
+        faults.push((6, "broken"));
+    }
+    let [Some(costs), Some(loads), Some(delays)] = &lists[..] else {
+        return faults;
+    };
+    match costs.len() {
+        0 => faults.push((6, "N low")),
+        65.. => faults.push((6, "N high")),
+        _ => {}
+    }
+    for ((&cost, &load), &delay) in costs.iter().zip(loads).zip(delays) {
+        let row = [
+            (cost == 0, "cost low"),
+            (cost > 1_000_000, "cost high"),
+            (load > 100_000_000, "load"),
+            (delay > 1_000_000, "delay"),
+        ];
+        faults.extend(
+            row.iter()
+                .filter(|(bad, _)| *bad)
+                .map(|(_, name)| (15, *name)),
+        );
+    }
+    faults
+}
+
+fn request_faults(words: &[String]) -> Faults {
+    let mut faults = Faults::new();
+    if words[3] == "0" {
+        faults.push((6, "tenancy"));
+    }
+    let blocks = entries(&words[5], 8);
+    if blocks.is_none() {
+        faults.push((6, "broken"));
+    }
+    let disks: u64 = words[4].parse().unwrap();
+    match disks {
+        0 => faults.push((6, "N low")),
+        65.. => faults.push((6, "N high")),
+        _ => {}
+    }
+    let blocks = blocks.unwrap_or_default();
+    if blocks.len() > 1_024 {
+        faults.push((6, "Q"));
+    }
+    for copies in blocks {
+        if copies == 0 {
+            faults.push((7, "no bits"));
+        }
+        if copies.count_ones() > 8 {
+            faults.push((6, "bits"));
+        }
+        if disks < 64 && copies >> disks != 0 {
+            faults.push((16, "bit at N"));
+        }
+    }
+    faults
+}
+
+/// Each fault comes alone, some come together, and the first of them is the refusal.
+fn check_writer(
+    word: &str,
+    faults_of: fn(&[String]) -> Faults,
+    names: &[&'static str],
+    together: &[(&'static str, &'static str)],
+) {
+    let (mut alone, mut pairs) = (BTreeMap::new(), BTreeSet::new());
+    let (mut rooms, mut written) = (BTreeSet::new(), BTreeMap::new());
+    for (words, answer) in answers(word) {
+        let faults = faults_of(&words);
+        let room: usize = words[1].parse().unwrap();
+        match (&faults[..], refused(&answer)) {
+            ([], Some((refusal, needed))) => {
+                assert_eq!(refusal, 11);
+                assert!(needed > room);
+                rooms.insert(if room == 0 { 0 } else { needed - room });
+                written.entry(needed).or_insert(false);
+            }
+            ([], None) => {
+                let length: usize = answer.split(' ').nth(1).unwrap().parse().unwrap();
+                assert!(length <= room);
+                *written.entry(length).or_insert(false) |= length == room;
+            }
+            ([(number, name), others @ ..], found) => {
+                assert_eq!(found, Some((*number, 0)), "{words:?}");
+                if others.is_empty() {
+                    *alone.entry(*name).or_insert(0) += 1;
+                }
+                pairs.extend(others.iter().map(|other| (*name, other.1)));
+            }
+        }
+    }
+    assert_eq!(
+        alone.keys().copied().collect::<BTreeSet<_>>(),
+        names.iter().copied().collect()
+    );
+    assert!(rooms.contains(&0) && rooms.contains(&1));
+    assert!(written.values().any(|exact| *exact));
+    for pair in together {
+        assert!(pairs.contains(pair), "{pair:?}");
+    }
+}
+
+#[test]
+fn the_writers_are_refused_for_every_fault() {
+    let settings = [
+        "tenancy",
+        "unequal",
+        "broken",
+        "N low",
+        "N high",
+        "cost low",
+        "cost high",
+        "load",
+        "delay",
+    ];
+    let together = [
+        ("tenancy", "unequal"),
+        ("tenancy", "broken"),
+        ("tenancy", "N low"),
+        ("tenancy", "N high"),
+        ("tenancy", "cost low"),
+        ("unequal", "cost low"),
+        ("unequal", "load"),
+        ("N high", "cost low"),
+        ("cost low", "load"),
+        ("cost high", "delay"),
+        ("load", "delay"),
+        ("delay", "cost low"),
+        ("load", "cost high"),
+    ];
+    check_writer("settings", settings_faults, &settings, &together);
+    let request = [
+        "tenancy", "broken", "N low", "N high", "Q", "no bits", "bits", "bit at N",
+    ];
+    let together = [
+        ("tenancy", "broken"),
+        ("tenancy", "N low"),
+        ("tenancy", "bit at N"),
+        ("broken", "N low"),
+        ("broken", "N high"),
+        ("N low", "Q"),
+        ("N high", "no bits"),
+        ("N high", "bits"),
+        ("Q", "no bits"),
+        ("Q", "bit at N"),
+        ("no bits", "bits"),
+        ("no bits", "bit at N"),
+        ("bits", "no bits"),
+        ("bits", "bit at N"),
+        ("bit at N", "no bits"),
+        ("bit at N", "bits"),
+    ];
+    check_writer("request", request_faults, &request, &together);
+}
