@@ -111,13 +111,20 @@ static int book(void)
 {
     static char line[2 * RP_LONGEST_PLAN + 16];
     unsigned number, place;
-    int plans = 0, faults = 0;
+    int plans = 0, faults = 0, numbers;
     while (fgets(line, sizeof line, stdin) != NULL) {
-        if (strncmp(line, "plan ", 5) == 0) {
+        if (strchr(line, '\n') == NULL) {
+            fprintf(stderr, "reel: the last line is cut: nothing is taken from it\n");
+            faults++;
+        } else if (strncmp(line, "plan ", 5) == 0) {
             plans++;
             faults += show(line + 5);
-        } else if (sscanf(line, "refused %u %u", &number, &place) == 2) {
+        } else if ((numbers = sscanf(line, "refused %u %u", &number, &place)) == 2) {
             faults += refused("the shelf", number | (uint64_t)place << 32);     /* as in an answer of the library */
+        } else if (numbers == 1) {
+            fprintf(stderr, "reel: the shelf: refused %u (an older shelf: no place): %s\n", number,
+                rp_refusal_words(number));
+            faults++;
         } else if (sscanf(line, "stopped %u", &number) == 1) {
             fprintf(stderr, "reel: the shelf stopped: the calls are damaged\n");
             faults++;

@@ -234,10 +234,10 @@ static void say_fault(const struct blocks *blocks, uint32_t tenancy, uint32_t di
     } else if (rp_refusal(answer) == RP_NO_ROOM) {
         faults_add(&faults, "%s: the sheet needs %s bytes, the buffer has %s", blocks->name,
             grouped(rp_place(answer)).text, grouped(RP_LONGEST_REQUEST).text);
-        cure = remedy_here(RP_NO_ROOM);
+        cure = remedy_here(RP_NO_ROOM, KIND_REQUEST);
     } else {
         if (rp_refusal(answer) == RP_NO_COPY)
-            cure = remedy_here(RP_NO_COPY);
+            cure = remedy_here(RP_NO_COPY, KIND_REQUEST);
         for (size_t i = 0; i < blocks->count; i++)
             add_block_fault(&faults, blocks, i, disks);
     }

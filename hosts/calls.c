@@ -1,6 +1,7 @@
 #include "calls.h"
 
 #include <stdlib.h>
+#include <string.h>
 
 #include "input.h"
 #include "number.h"
@@ -33,12 +34,16 @@ static bool take_sheet(struct reader *r, struct bytes *sheet)
 
 static bool take_call(struct reader *r, struct call *call)
 {
-    *call = (struct call){ 0, 0, { NULL, 0, 0 } };
-    if (!take(r, &call->kind) || call->kind < CALL_RENT || call->kind > CALL_RETURN)
+    *call = (struct call){ 0, 0, 0, 0, { NULL, 0, 0 } };
+    if (!take(r, &call->kind))
         return false;
-    if (call->kind != CALL_SETTINGS && !take(r, &call->number))
-        return false;
-    return call->kind == CALL_RENT || call->kind == CALL_RETURN || take_sheet(r, &call->sheet);
+    switch (call->kind) {
+    case CALL_RENT: case CALL_RETURN: return take(r, &call->number);
+    case CALL_SETTINGS: return take_sheet(r, &call->sheet);
+    case CALL_REQUEST: return take(r, &call->number) && take_sheet(r, &call->sheet);
+    case CALL_WHY: return take(r, &call->block) && take(r, &call->disk) && take_sheet(r, &call->sheet);
+    default: return false;
+    }
 }
 
 bool calls_read(const char *path, struct calls *calls)
@@ -67,10 +72,16 @@ void calls_free(struct calls *calls)
     calls->count = 0;
 }
 
+bool call_same_sheet(const struct call *a, const struct call *b)
+{
+    return a->sheet.len == b->sheet.len && (a->sheet.len == 0 || memcmp(a->sheet.at, b->sheet.at, a->sheet.len) == 0);
+}
+
 const char *call_name(uint32_t kind)
 {
     static const char *const NAMES[] = {
-        [CALL_RENT] = "rent", [CALL_SETTINGS] = "settings", [CALL_REQUEST] = "request", [CALL_RETURN] = "return"
+        [CALL_RENT] = "rent", [CALL_SETTINGS] = "settings", [CALL_REQUEST] = "request", [CALL_RETURN] = "return",
+        [CALL_WHY] = "why"
     };
     return NAMES[kind];
 }

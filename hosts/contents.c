@@ -367,10 +367,10 @@ void contents_read(const struct bytes *sheet, const struct expected *expected, s
         put_rest(&r);
 }
 
-bool contents_is_plan_of(const struct bytes *sheet, uint32_t unit, uint32_t tenancy)
+bool contents_is_of(const struct bytes *sheet, uint32_t kind, uint32_t unit, uint32_t tenancy)
 {
     struct contents contents = { .kind = 0 };
-    const struct expected expected = { &unit, &tenancy, RP_MOST_DISKS, KIND_PLAN, false };
+    const struct expected expected = { &unit, &tenancy, RP_MOST_DISKS, kind, false };
     struct reader r = { sheet, &expected, &contents, NULL, 0, 0, 0, 0 };
     return read_head(&r);
 }
@@ -401,7 +401,7 @@ bool contents_begin(const struct bytes *bytes)
 static bool refused(const struct contents *contents, const char *name)
 {
     if (contents->refusal != RP_ACCEPTED)
-        contents_say(contents, name, remedy_here(contents->refusal));
+        contents_say(contents, name, remedy_here(contents->refusal, contents->kind));
     return contents->refusal != RP_ACCEPTED;
 }
 
@@ -492,7 +492,9 @@ static bool library_agrees(const struct bytes *sheet, const struct contents *c, 
         : library_writes_request(sheet, c, expected->disks);
 }
 
-int contents_show(const struct bytes *sheet, const struct expected *expected, const char *title)
+static const char UP_TO_MOST[] = " (disks checked up to 63; --disks N for a unit's)";
+
+int contents_show(const struct bytes *sheet, const struct expected *expected, bool disks_known, const char *title)
 {
     static struct contents contents;
     struct bytes text = bytes_new();
@@ -502,11 +504,13 @@ int contents_show(const struct bytes *sheet, const struct expected *expected, co
     bytes_addf(&text, " byte  bytes                       field\n");
     contents_read(sheet, expected, &contents, &text);
     if (contents.refusal == RP_ACCEPTED)
-        bytes_addf(&text, "%5zu  %-28s%s\n", sheet->len, "", "the end: a whole sheet");
+        bytes_addf(&text, "%5zu  %-28sthe end: a whole sheet%s\n", sheet->len, "",
+            contents.kind == KIND_REQUEST && !disks_known ? UP_TO_MOST : "");
     good = output_write(NULL, text.at, text.len);
     if (good && contents.refusal != RP_ACCEPTED) {
         contents_say(&contents, NULL, contents.refusal == RP_WRONG_KIND
-            ? "these are not a sheet's bytes, or one of a newer version" : remedy_here(contents.refusal));
+            ? "these are not a sheet's bytes, or one of a newer version"
+            : remedy_here(contents.refusal, contents.kind));
         good = false;
     }
     if (!library_agrees(sheet, &contents, expected)) {

@@ -46,8 +46,8 @@ struct contents {
 void contents_read(const struct bytes *sheet, const struct expected *expected, struct contents *contents,
     struct bytes *text);
 
-/* Whether the first three fields are those of a plan of this unit and tenancy. */
-bool contents_is_plan_of(const struct bytes *sheet, uint32_t unit, uint32_t tenancy);
+/* Whether the first three fields are those of a sheet of this kind, unit and tenancy. */
+bool contents_is_of(const struct bytes *sheet, uint32_t kind, uint32_t unit, uint32_t tenancy);
 
 /* Adds the field at which a sheet is refused, and what stands there. */
 void contents_add(const struct contents *contents, struct bytes *what);
@@ -69,7 +69,10 @@ bool contents_begin(const struct bytes *bytes);
 bool contents_table(const struct bytes *sheet, const char *name, struct expected expected, struct table *table);
 bool contents_blocks(const struct bytes *sheet, const char *name, struct expected expected, struct blocks *blocks);
 
-/* Shows a sheet on standard output, field by field; says where it is refused, if it is. `title` may be null. */
-int contents_show(const struct bytes *sheet, const struct expected *expected, const char *title);
+/*
+ * Shows a sheet on standard output, field by field; says where it is refused, if it is. Where the unit's disks are not
+ * known, a whole request is shown as one that was not held against them. `title` may be null.
+ */
+int contents_show(const struct bytes *sheet, const struct expected *expected, bool disks_known, const char *title);
 
 #endif

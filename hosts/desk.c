@@ -33,14 +33,16 @@ static const char HELP[] =
     "\n"
     "show shows any sheet field by field with the places of its bytes, and where it is refused.\n"
     "SHEET is a file, by default standard input: the sheet itself, or its bytes in hex or as xxd\n"
-    "or hexdump show them, or what the shelf printed. The options say what is expected of it. With\n"
-    "--calls FILE, the calls that were sent, as stream wrote them, what the shelf refused is told\n"
-    "with the field that stands at its place.\n"
+    "or hexdump show them, or what the shelf printed. Of its lines every call that it refused is\n"
+    "shown as well, on standard output, and nothing is taken from a last line without its line\n"
+    "feed. The options say what is expected of a sheet; without --disks N, those of a request are\n"
+    "checked up to 63. With --calls FILE, the calls that were sent, as stream wrote them, what the\n"
+    "shelf refused is told with the field that stands at its place.\n"
     "\n"
     "FILE is written whole or not at all, not at all where the sheet is refused, and never over an\n"
     "input or a read-only file.\n"
     "Exit status: 0 done; 1 refused, or a file can not be used; 2 called wrongly; 3 sheets are\n"
-    "shown, and the shelf refused another call or stopped.\n";
+    "shown, and the shelf refused another call or stopped, or its last line is cut.\n";
 
 static int settings(char **words)
 {

@@ -19,10 +19,10 @@ static void say_place(const char *name, const struct found *found, uint32_t unit
         bytes_addf(&whose, ":%u", found->line);
     contents_read(&found->sheet, &expected, &contents, NULL);
     if (contents_agree(&contents, answer))
-        contents_say(&contents, bytes_text(&whose), remedy_here(rp_refusal(answer)));
+        contents_say(&contents, bytes_text(&whose), remedy_here(rp_refusal(answer), KIND_PLAN));
     else
         say_refused_at(rp_refusal(answer), rp_place(answer), SAYS_OTHERWISE, bytes_text(&whose),
-            remedy_here(rp_refusal(answer)));
+            remedy_here(rp_refusal(answer), KIND_PLAN));
     bytes_free(&whose);
 }
 
@@ -60,48 +60,80 @@ uint64_t end_of(const struct row *row, uint32_t blocks)
 }
 
 static const char OTHER_TABLE[] = "it is another unit's table, or an older one, or the plan is damaged";
+static const char OTHER_LIST[] = "it is another request's plan, or it is damaged";
+static const char OTHER_CALLS[] = "the line is damaged, or answers other calls";
+
+/* Adds a fault: of the table or list that the plan is held against or, with calls, of the line where the plan stands. */
+static void add_fault(struct faults *faults, const struct plan *plan, const char *name, struct bytes *fault,
+    const char *other)
+{
+    if (plan->calls == NULL)
+        faults_add(faults, "%s: %s; %s", name, bytes_text(fault), other);
+    else
+        faults_add(faults, "%s:%u: %s; %s", plan->name, plan->line, bytes_text(fault), OTHER_CALLS);
+    fault->len = 0;
+}
+
+/* Adds what a plan is held against: the table or list by its own words, or what the calls have of it. */
+static void add_held(struct bytes *text, const struct plan *plan, const char *own, const char *sent)
+{
+    bytes_addf(text, "%s%s", plan->calls == NULL ? own : sent, plan->calls == NULL ? "" : plan->calls);
+}
+
+/* Says the faults; whether there are none. */
+static bool none_said(struct faults *faults, struct bytes *fault)
+{
+    const bool good = faults->count == 0;
+    faults_say(faults);
+    faults_free(faults);
+    bytes_free(fault);
+    return good;
+}
 
 bool plan_fits(const struct plan *plan, const struct table *table)
 {
+    struct faults faults = faults_new();
+    struct bytes fault = bytes_new();
     uint64_t latest = 0;
-    for (uint32_t d = 0; d < RP_MOST_DISKS; d++) {
+    for (uint32_t d = 0; d < RP_MOST_DISKS && faults.count == 0; d++) {
         uint64_t end = d < table->count ? end_of(&table->rows[d], plan->counts[d]) : 0;
         if (d >= table->count && plan->counts[d] > 0) {
-            say("%s: the plan reads from disk %u, and this table ends with disk %zu; %s", table->name,
-                (unsigned)d, table->count - 1, OTHER_TABLE);
-            return false;
+            bytes_addf(&fault, "the plan reads from disk %u, and by ", (unsigned)d);
+            add_held(&fault, plan, "this table", "the settings in ");
+            bytes_addf(&fault, " the last is disk %zu", table->count - 1);
+            add_fault(&faults, plan, table->name, &fault, OTHER_TABLE);
         }
         latest = end > latest ? end : latest;
     }
-    if (latest != plan->time) {
-        say("%s: the plan's time is %s, and by this table it ends at %s; %s", table->name,
-            grouped(plan->time).text, grouped(latest).text, OTHER_TABLE);
-        return false;
+    if (faults.count == 0 && latest != plan->time) {
+        bytes_addf(&fault, "the plan's time is %s, and by ", grouped(plan->time).text);
+        add_held(&fault, plan, "this table", "the settings in ");
+        bytes_addf(&fault, " it ends at %s", grouped(latest).text);
+        add_fault(&faults, plan, table->name, &fault, OTHER_TABLE);
     }
-    return true;
+    return none_said(&faults, &fault);
 }
-
-static const char OTHER_LIST[] = "it is another request's plan, or it is damaged";
 
 bool plan_holds(const struct plan *plan, const struct blocks *blocks)
 {
     struct faults faults = faults_new();
-    bool good;
-    if (blocks->count != plan->blocks)
-        faults_add(&faults, "%s: the plan has %u blocks, and this request %zu; %s", blocks->name,
-            (unsigned)plan->blocks, blocks->count, OTHER_LIST);
-    for (uint32_t b = 0; b < plan->blocks && blocks->count == plan->blocks; b++) {
-        struct bytes disks = bytes_new();
-        add_disks(&disks, blocks->list[b].copies);
-        if (!(blocks->list[b].copies >> plan->disk[b] & 1))
-            faults_add(&faults, "%s: block %u is read from disk %u, and it is on%s; %s", blocks->name, (unsigned)b,
-                plan->disk[b], bytes_text(&disks), OTHER_LIST);
-        bytes_free(&disks);
+    struct bytes fault = bytes_new();
+    if (blocks->count != plan->blocks) {
+        bytes_addf(&fault, "the plan has %u blocks, and ", (unsigned)plan->blocks);
+        add_held(&fault, plan, "this request", "the request in ");
+        bytes_addf(&fault, " %zu", blocks->count);
+        add_fault(&faults, plan, blocks->name, &fault, OTHER_LIST);
     }
-    good = faults.count == 0;
-    faults_say(&faults);
-    faults_free(&faults);
-    return good;
+    for (uint32_t b = 0; b < plan->blocks && blocks->count == plan->blocks; b++) {
+        if (blocks->list[b].copies >> plan->disk[b] & 1)
+            continue;
+        bytes_addf(&fault, "block %u is read from disk %u, and ", (unsigned)b, plan->disk[b]);
+        add_held(&fault, plan, "", "by the request in ");
+        bytes_addf(&fault, "%sit is on", plan->calls == NULL ? "" : " ");
+        add_disks(&fault, blocks->list[b].copies);
+        add_fault(&faults, plan, blocks->name, &fault, OTHER_LIST);
+    }
+    return none_said(&faults, &fault);
 }
 
 /* How many blocks a disk can have read by a time. */
@@ -113,6 +145,7 @@ static uint64_t room_of(const struct row *row, uint64_t time)
 bool plan_reason(const struct plan *plan, const struct blocks *blocks, const struct table *table,
     struct reason *reason)
 {
+    struct bytes fault;
     *reason = (struct reason){ 0, { 0 }, 0 };
     for (uint32_t b = 0; b < plan->blocks; b++)
         if (plan->is_short[b])
@@ -124,9 +157,15 @@ bool plan_reason(const struct plan *plan, const struct blocks *blocks, const str
     }
     if (plan->blocks == 0 || reason->sum < plan->short_size)
         return true;
-    say("the short set is not short, so R may not be least: by %s the disks that hold its %u block%s have room for %s "
-        "(%s, %s); %s", grouped(plan->time - 1).text, (unsigned)plan->short_size, plan->short_size == 1 ? "" : "s",
-        grouped(reason->sum).text, table->name, blocks->name, OTHER_LIST);
+    fault = bytes_new();
+    bytes_addf(&fault, "the short set is not short, so R may not be least: by %s the disks that hold its %u block%s have "
+        "room for %s", grouped(plan->time - 1).text, (unsigned)plan->short_size, plan->short_size == 1 ? "" : "s",
+        grouped(reason->sum).text);
+    if (plan->calls == NULL)
+        say("%s (%s, %s); %s", bytes_text(&fault), table->name, blocks->name, OTHER_LIST);
+    else
+        say("%s:%u: %s, by the settings in %s; %s", plan->name, plan->line, bytes_text(&fault), plan->calls, OTHER_CALLS);
+    bytes_free(&fault);
     return false;
 }
 

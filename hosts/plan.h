@@ -20,6 +20,9 @@ struct plan {
     uint8_t disk[RP_MOST_BLOCKS];       /* of each block */
     bool is_short[RP_MOST_BLOCKS];      /* whether a block is of the short set */
     uint32_t counts[RP_MOST_DISKS];     /* how many blocks are read from a disk */
+    const char *calls;                  /* the file of the calls that it is held against; null for a table and a list */
+    const char *name;                   /* with calls: the file that it stands in, and its line */
+    unsigned line;
 };
 
 /* Why R is least: the disks that hold any block of the short set, and their room one microsecond before R. */

@@ -2,6 +2,7 @@
 
 #include <stddef.h>
 
+#include "contents.h"
 #include "rippleplank.h"
 
 struct remedy {
@@ -16,13 +17,13 @@ static const struct remedy REMEDIES[] = {
     [RP_BAD_NUMBER] = { "the sheet is damaged; fetch it again",
         "the sheet is damaged; write it again and send that" },
     [RP_WRONG_KIND] = { "this is another kind of sheet; give the one that is asked for",
-        "send a settings sheet with settings and a read request with request" },
+        "send a settings sheet with settings, and a read request with request or why" },
     [RP_WRONG_UNIT] = { "the sheet is of another unit; check UNIT",
         "the sheet is of another unit; send it there, or write it for this one" },
     [RP_WRONG_TENANCY] = { "the sheet is of another tenancy, or TENANCY is 0; check TENANCY",
         "rent the unit first; if it is rented, write the sheet for that tenancy" },
     [RP_OUT_OF_RANGE] = { "the sheet has a count that no such sheet can have; fetch it again",
-        "show the sheet and look at that count; write the sheet again" },
+        "correct that count in the table or list; write the sheet again" },
     [RP_NO_COPY] = { "give every block at least one disk that holds it",
         "give every block at least one disk that holds it" },
     [RP_NOT_RISING] = { "the sheet's list is out of order or repeats a number; fetch it again",
@@ -38,7 +39,7 @@ static const struct remedy REMEDIES[] = {
     [RP_BAD_AMOUNT] = { "the sheet has a time that no such sheet can have; fetch it again",
         "correct that cost, load or delay in the table; write the settings again" },
     [RP_BAD_INDEX] = { "the sheet names a disk or block that is not there; fetch it again",
-        "name only disks that the unit's settings have, or send it settings that have them" },
+        "the list is of another unit, or the settings are too short; name only disks that the settings have" },
 };
 
 /* The row of a refusal, or an empty one. */
@@ -50,9 +51,17 @@ static struct remedy row(unsigned refusal)
 
 static const char NEWER[] = "use the tools of the same version as the library";
 
-const char *remedy_here(unsigned refusal)
+/* Whether a table or list is at fault: the sheet that was made of it is the same when it is fetched again. */
+static bool is_of_list(unsigned refusal)
 {
-    const char *words = row(refusal).here;
+    return refusal == RP_OUT_OF_RANGE || refusal == RP_NOT_RISING || refusal == RP_BAD_AMOUNT
+        || refusal == RP_BAD_INDEX;
+}
+
+const char *remedy_here(unsigned refusal, uint32_t kind)
+{
+    const bool of_list = (kind == KIND_SETTINGS || kind == KIND_REQUEST) && is_of_list(refusal);
+    const char *words = of_list ? row(refusal).at_shelf : row(refusal).here;
     return words != NULL ? words : NEWER;
 }
 

@@ -8,7 +8,7 @@ enum {
     STATUS_DONE = 0,
     STATUS_BAD = 1,     /* refused, or an input or output that can not be used */
     STATUS_USAGE = 2,   /* called wrongly */
-    STATUS_TOLD = 3     /* the plan is shown, and the shelf refused another call or stopped */
+    STATUS_TOLD = 3     /* what was asked for is shown, and the shelf's lines tell of trouble beside it */
 };
 
 /* The program's name, to stand before its messages. */

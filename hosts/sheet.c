@@ -11,38 +11,46 @@
 #include "remedy.h"
 #include "say.h"
 
-/* Text has no control bytes but those of lines; every sheet begins with one, its kind. */
+/*
+ * Text has no control bytes but those of lines; every sheet begins with one, its kind. One whose kind does not end has
+ * bytes of 128 and above alone, and a text has a letter.
+ */
 static bool is_text(const struct bytes *b)
 {
+    bool letters = false, high = false;
     for (size_t i = 0; i < b->len; i++) {
         uint8_t c = b->at[i];
         if ((c < ' ' && c != '\n' && c != '\r' && c != '\t') || c == 0x7F)
             return false;
+        letters = letters || (c > ' ' && c < 0x7F);
+        high = high || c > 0x7F;
     }
-    return b->len > 0;
+    return b->len > 0 && (letters || !high);
 }
 
-/* Whether bytes begin as a text in UTF-16 does, which has control bytes. */
+/* Whether bytes begin as a text in UTF-16 does, which has control bytes, and go on. */
 static bool is_wide_text(const struct bytes *b)
 {
-    return b->len >= 2 && (memcmp(b->at, "\xFF\xFE", 2) == 0 || memcmp(b->at, "\xFE\xFF", 2) == 0);
+    return b->len > 2 && (memcmp(b->at, "\xFF\xFE", 2) == 0 || memcmp(b->at, "\xFE\xFF", 2) == 0);
 }
 
 /* ---- the shelf's lines ---- */
-
-enum { MOST_TOLD = 50 };
 
 /* A text as it is read. */
 struct reading {
     struct sheets *sheets;
     struct bytes found;     /* struct found */
+    struct bytes whys;      /* struct why */
     struct bytes hex;       /* of lines that are hex digits alone: one sheet in all */
     unsigned hex_line;      /* the first of them */
     unsigned calls;         /* the shelf's lines so far, one for each call */
     bool rented;            /* by those lines */
     const struct calls *sent;   /* the calls, null where they are not known */
-    uint32_t tenancy;       /* by lines and calls, while rented */
+    uint32_t tenancy;       /* the last one by lines and calls, while rented the one that the unit has */
     uint32_t disks;         /* N, by lines and calls; 0 before any settings */
+    const struct call *settings;    /* the call that set them; null where it is not known */
+    const struct call *read;        /* whose sheet was read last, since the unit changed; null for none */
+    uint32_t read_kind;     /* and what it was read as */
     unsigned others;        /* how many refusals the calls do not explain */
 };
 
@@ -56,21 +64,34 @@ static bool begins(struct span line, const char *word, struct span *rest)
     return true;
 }
 
-/* The numbers of a line, at most three; how many there are, 0 where it has anything else. */
-static unsigned numbers_in(struct span rest, uint32_t numbers[3])
+/* The numbers of a line, at most two, as the shelf writes them; how many there are, 0 where it has anything else. */
+static unsigned numbers_in(struct span rest, uint32_t numbers[2])
 {
     struct span word;
     unsigned count = 0;
     while (span_next(&rest, " ", &word))
-        if (count == 3 || !number_of(word, &numbers[count++]))
+        if (count == 2 || (word.len > 1 && word.at[0] == '0') || !number_of(word, &numbers[count++]))
             return 0;
     return count;
 }
+
+/* What a line says of a call that was refused. */
+struct refusal {
+    uint32_t number;
+    uint32_t place;     /* of a line without one, what the calls give; 0 where they are not known */
+    bool placed;        /* whether the line has a place: an older shelf's has not */
+};
 
 /* Whether a refusal is of a call without a sheet: its place says nothing. */
 static bool has_no_sheet(uint32_t refusal)
 {
     return refusal == RP_RENTED || refusal == RP_NOT_ABOVE || refusal == RP_NOT_THE_TENANT;
+}
+
+/* Whether a line says that a call was refused with a number, at a place. */
+static bool says(const struct refusal *refusal, uint32_t number, size_t place)
+{
+    return refusal->number == number && (!refusal->placed || refusal->place == place);
 }
 
 /* The call that a line answers; null where it is not known. */
@@ -79,56 +100,140 @@ static const struct call *call_of(const struct reading *r)
     return r->sent != NULL && r->calls <= r->sent->count ? &r->sent->list[r->calls - 1] : NULL;
 }
 
-/* Reads the sheet of a call as the unit does that the lines have shown so far; false where the call has none. */
-static bool read_sent(const struct reading *r, struct contents *contents)
-{
-    const struct call *call = call_of(r);
-    const struct expected expected = { &r->sent->unit, &r->tenancy, r->disks,
-        call->kind == CALL_SETTINGS ? KIND_SETTINGS : KIND_REQUEST, !r->rented };
-    if (call->kind != CALL_SETTINGS && call->kind != CALL_REQUEST)
-        return false;
-    contents_read(&call->sheet, &expected, contents, NULL);
-    return true;
-}
-
-/* Adds the field at the place where the shelf refused a call's sheet; false where these bytes are not refused so. */
-static bool add_field(const struct reading *r, uint32_t refusal, uint32_t place, struct bytes *field)
+/*
+ * The sheet of a call as the unit reads it that the lines have shown so far; null where the call has none. Many calls in
+ * a row may have one request, which is read once.
+ */
+static const struct contents *read_sent(struct reading *r)
 {
     static struct contents contents;
-    if (!read_sent(r, &contents))
-        return false;
-    if (refusal == RP_NO_ROOM && contents.refusal == RP_ACCEPTED && place > call_of(r)->number) {
-        bytes_addf(field, "the plan needs %s bytes, the buffer has %s", grouped(place).text,
-            grouped(call_of(r)->number).text);
+    const struct call *call = call_of(r);
+    const uint32_t kind = call->kind == CALL_SETTINGS ? KIND_SETTINGS : KIND_REQUEST;
+    const struct expected expected = { &r->sent->unit, &r->tenancy, r->disks, kind, !r->rented };
+    if (call->kind == CALL_RENT || call->kind == CALL_RETURN)
+        return NULL;
+    if (r->read == NULL || r->read_kind != kind || !call_same_sheet(r->read, call))
+        contents_read(&call->sheet, &expected, &contents, NULL);
+    r->read = call;
+    r->read_kind = kind;
+    return &contents;
+}
+
+/* Whether a block and a disk that were asked about are of a request of so many blocks and of the unit. */
+static bool within(const struct reading *r, const struct call *call, uint32_t blocks)
+{
+    return call->block < blocks && call->disk < r->disks;
+}
+
+/* Adds which of the two is not. */
+static void add_outside(const struct reading *r, const struct call *call, uint32_t blocks, struct bytes *field)
+{
+    if (call->block >= blocks && blocks == 0)
+        bytes_addf(field, "block %u: the request has no blocks", (unsigned)call->block);
+    else if (call->block >= blocks)
+        bytes_addf(field, "block %u: the request has the blocks 0 to %u", (unsigned)call->block, (unsigned)blocks - 1);
+    if (call->disk >= r->disks)
+        bytes_addf(field, "%sdisk %u: the settings have the disks 0 to %u", field->len > 0 ? "; " : "",
+            (unsigned)call->disk, (unsigned)r->disks - 1);
+}
+
+/* What the unit refuses a call to rent or return with; 0 where it does not. */
+static uint32_t hire_refusal(const struct reading *r, const struct call *call)
+{
+    if (call->kind == CALL_RENT && r->rented)
+        return RP_RENTED;
+    if (call->kind == CALL_RENT)
+        return call->number > r->tenancy ? RP_ACCEPTED : RP_NOT_ABOVE;
+    return r->rented && call->number == r->tenancy ? RP_ACCEPTED : RP_NOT_THE_TENANT;
+}
+
+/* Adds such a call, and the tenancy that the unit has or had. */
+static void add_hire(const struct reading *r, const struct call *call, struct bytes *field)
+{
+    bytes_addf(field, "%s %u: ", call_name(call->kind), (unsigned)call->number);
+    if (r->rented)
+        bytes_addf(field, "the unit has tenancy %u", (unsigned)r->tenancy);
+    else if (call->kind == CALL_RETURN)
+        bytes_addf(field, "nobody has rented the unit");
+    else if (r->tenancy > 0)
+        bytes_addf(field, "the last tenancy was %u", (unsigned)r->tenancy);
+    else
+        bytes_addf(field, "no tenancy is 0");
+}
+
+/* Adds the room that a plan needs, as far as the line tells it. */
+static void add_room(const struct call *call, const struct refusal *refusal, struct bytes *field)
+{
+    if (refusal->placed)
+        bytes_addf(field, "the plan needs %s bytes, the buffer has %s", grouped(refusal->place).text,
+            grouped(call->number).text);
+    else
+        bytes_addf(field, "the plan needs more than the %s bytes that the buffer has", grouped(call->number).text);
+}
+
+/* Adds what was refused in a call's sheet that is right in itself; false where nothing is. */
+static bool add_beside(const struct reading *r, const struct contents *contents, const struct refusal *refusal,
+    struct bytes *field)
+{
+    const struct call *call = call_of(r);
+    if (call->kind == CALL_REQUEST && refusal->number == RP_NO_ROOM && call->number < RP_LONGEST_PLAN
+        && (!refusal->placed || refusal->place > call->number)) {
+        add_room(call, refusal, field);
         return true;
     }
-    if (contents.refusal != refusal || contents.place != place)
+    if (call->kind == CALL_WHY && says(refusal, RP_BAD_INDEX, 0) && !within(r, call, contents->count)) {
+        add_outside(r, call, contents->count, field);
+        return true;
+    }
+    return false;
+}
+
+/* Adds the field at which the shelf refused a call, and takes its place; false where the call is not refused so. */
+static bool add_field(struct reading *r, struct refusal *refusal, struct bytes *field)
+{
+    const struct contents *contents = read_sent(r);
+    if (contents == NULL) {
+        const bool same = says(refusal, hire_refusal(r, call_of(r)), 0);
+        if (same)
+            add_hire(r, call_of(r), field);
+        return same;
+    }
+    if (contents->refusal == RP_ACCEPTED)
+        return add_beside(r, contents, refusal, field);
+    if (!says(refusal, contents->refusal, contents->place))
         return false;
-    contents_add(&contents, field);
+    contents_add(contents, field);
+    refusal->place = (uint32_t)contents->place;
     return true;
 }
 
-/* Adds what has to be told of a call that was refused: its number and, if they are there, its place and which sheet. */
-static void add_refusal(struct reading *r, unsigned line, const uint32_t *numbers, unsigned count)
+/* Adds what has to be told of a call that was refused. */
+static void add_refusal(struct reading *r, unsigned line, struct refusal refusal)
 {
     struct bytes *told = &r->sheets->told, field = bytes_new();
-    const bool placed = count > 1 && !has_no_sheet(numbers[0]), no_room = numbers[0] == RP_NO_ROOM;
-    const bool named = placed && call_of(r) != NULL && add_field(r, numbers[0], numbers[1], &field);
-    if (placed && call_of(r) != NULL && !named)
+    const bool sent = call_of(r) != NULL, named = sent && add_field(r, &refusal, &field);
+    const bool known = refusal.placed || named, no_room = refusal.number == RP_NO_ROOM;
+    const bool of_pair = known && refusal.number == RP_BAD_INDEX && refusal.place == 0; /* where a sheet has its kind */
+    const bool at_byte = known && !has_no_sheet(refusal.number) && !no_room && !of_pair;
+    if (sent && !named)
         r->others++;
-    if (r->sheets->refusals++ < MOST_TOLD) {
-        bytes_addf(told, "refused %u", (unsigned)numbers[0]);
-        if (placed && !no_room)
-            bytes_addf(told, " at byte %u", (unsigned)numbers[1]);
-        if (count > 2)
-            bytes_addf(told, " of sheet %u", (unsigned)numbers[2]);
+    if (r->sheets->refusals++ < r->sheets->most_told) {
+        bytes_addf(told, "refused %u", (unsigned)refusal.number);
+        if (at_byte)
+            bytes_addf(told, " at byte %u", (unsigned)refusal.place);
         bytes_addf(told, ": %s\n  %s:%u: the shelf refused call %u", named ? bytes_text(&field)
-            : rp_refusal_words(numbers[0]), r->sheets->name, line, r->calls);
+            : rp_refusal_words(refusal.number), r->sheets->name, line, r->calls);
         if (named)
-            bytes_addf(told, ", %s: %s", call_name(call_of(r)->kind), rp_refusal_words(numbers[0]));
-        else if (placed && no_room)
-            bytes_addf(told, ", whose plan needs %s bytes", grouped(numbers[1]).text);
-        bytes_addf(told, "\n  what to do: %s\n", remedy_at_shelf(numbers[0], r->rented));
+            bytes_addf(told, ", %s: %s", call_name(call_of(r)->kind), rp_refusal_words(refusal.number));
+        else if (refusal.placed && no_room)
+            bytes_addf(told, ", whose plan needs %s bytes", grouped(refusal.place).text);
+        if (sent && !named)
+            bytes_addf(told, "\n  the calls of %s do not explain it", r->sent->name);
+        if (!refusal.placed)
+            bytes_addf(told, "\n  the line has no place: it is of an older shelf, or was cut%s",
+                at_byte ? "; the place is the calls'" : "");
+        bytes_addf(told, "\n  what to do: %s\n", of_pair ? "ask about a block of the request and a disk of the settings"
+            : remedy_at_shelf(refusal.number, r->rented));
     }
     bytes_free(&field);
 }
@@ -136,41 +241,64 @@ static void add_refusal(struct reading *r, unsigned line, const uint32_t *number
 /* Adds that the shelf stopped. */
 static void add_stop(struct reading *r, unsigned line, uint32_t number)
 {
-    bytes_addf(&r->sheets->told, "stopped %u: %s\n  %s:%u: the shelf stopped at call %u\n"
-        "  what to do: write the stream of calls again, whole\n", (unsigned)number, why_stopped(number),
-        r->sheets->name, line, r->calls);
+    const bool older = number == RP_WRONG_KIND && call_of(r) != NULL && call_of(r)->kind == CALL_WHY;
+    bytes_addf(&r->sheets->told, "stopped %u: %s\n  %s:%u: the shelf stopped at call %u%s\n"
+        "  what to do: %s\n", (unsigned)number, why_stopped(number), r->sheets->name, line, r->calls,
+        older ? ", why" : "", older ? "use a shelf that has the call why: this one is older"
+        : "write the stream of calls again, whole");
     r->sheets->refusals++;
+    r->sheets->stopped = true;
+}
+
+/* Whether the unit could have accepted the call that a line answers, as one of a kind. */
+static bool could_accept(struct reading *r, uint32_t kind)
+{
+    const struct call *call = call_of(r);
+    const struct contents *contents;
+    if (call == NULL || call->kind != kind)
+        return false;
+    contents = read_sent(r);
+    if (contents == NULL)
+        return hire_refusal(r, call) == RP_ACCEPTED;
+    return contents->refusal == RP_ACCEPTED && (kind != CALL_WHY || within(r, call, contents->count));
 }
 
 /* Takes a line that accepts a call of a kind, and what that makes of the unit. */
 static void accept(struct reading *r, unsigned line, uint32_t kind)
 {
-    static struct contents contents;
-    const struct call *call = call_of(r);
-    if (r->sent != NULL && (call == NULL || call->kind != kind)) {
+    const struct call *call;
+    if (r->sent != NULL && !could_accept(r, kind)) {
         say("%s:%u: this line does not answer call %u of %s: other calls were sent", r->sheets->name, line, r->calls,
             r->sent->name);
         r->sent = NULL;
-        call = NULL;
+        r->settings = NULL;
+        r->sheets->astray = true;
     }
-    if (kind == CALL_SETTINGS && call != NULL && read_sent(r, &contents))
-        r->disks = contents.count;
+    call = call_of(r);
+    if (kind == CALL_SETTINGS) {
+        r->disks = call == NULL ? r->disks : read_sent(r)->count;
+        r->settings = call;
+        r->read = NULL;
+    }
     if (kind == CALL_RENT || kind == CALL_RETURN) {
         r->rented = kind == CALL_RENT;
         r->tenancy = call == NULL ? 0 : call->number;
         r->disks = 0;
+        r->settings = NULL;
+        r->read = NULL;
     }
 }
 
-static void add_sheet(struct reading *r, struct bytes *sheet, unsigned line)
+static void add_sheet(struct reading *r, struct bytes *sheet, unsigned line, const struct call *call)
 {
-    bytes_add(&r->found, &(struct found){ *sheet, line }, sizeof(struct found));
+    const struct found found = { *sheet, line, call, r->settings };
+    bytes_add(&r->found, &found, sizeof found);
 }
 
 /* A line of the shelf that is no plan; false where it is none. */
 static bool take_word(struct reading *r, unsigned line, struct span code)
 {
-    uint32_t numbers[3];
+    uint32_t numbers[2] = { 0, 0 };
     struct span rest;
     unsigned count;
     if (span_is(code, "rented"))
@@ -179,12 +307,27 @@ static bool take_word(struct reading *r, unsigned line, struct span code)
         accept(r, line, CALL_SETTINGS);
     else if (span_is(code, "returned"))
         accept(r, line, CALL_RETURN);
-    else if (begins(code, "refused", &rest) && (count = numbers_in(rest, numbers)) > 0)
-        add_refusal(r, line, numbers, count);
+    else if (begins(code, "refused", &rest) && (count = numbers_in(rest, numbers)) > 0 && numbers[0] > 0)
+        add_refusal(r, line, (struct refusal){ numbers[0], count == 2 ? numbers[1] : 0, count == 2 });
     else if (begins(code, "stopped", &rest) && numbers_in(rest, numbers) == 1)
         add_stop(r, line, numbers[0]);
     else
         return false;
+    return true;
+}
+
+/* A reason of the shelf; false where it is none. */
+static bool take_reason(struct reading *r, unsigned line, struct span code)
+{
+    uint32_t numbers[2];
+    struct span rest;
+    struct why why;
+    if (!begins(code, "reason", &rest) || numbers_in(rest, numbers) != 2 || numbers[0] < NO_COPY || numbers[0] > CHOSEN
+        || (numbers[0] == LATER) != (numbers[1] > 0))
+        return false;
+    accept(r, line, CALL_WHY);
+    why = (struct why){ line, numbers[0], numbers[1], call_of(r), r->settings };
+    bytes_add(&r->whys, &why, sizeof why);
     return true;
 }
 
@@ -196,7 +339,7 @@ static bool take_plan(struct reading *r, unsigned line, struct span code)
     bool good = begins(code, "plan", &rest) && hex_read(rest, &sheet);
     if (good) {
         accept(r, line, CALL_REQUEST);
-        add_sheet(r, &sheet, line);
+        add_sheet(r, &sheet, line, call_of(r));
     } else {
         bytes_free(&sheet);
     }
@@ -207,10 +350,52 @@ static bool take_plan(struct reading *r, unsigned line, struct span code)
 static bool take_answer(struct reading *r, unsigned line, struct span code)
 {
     r->calls++;
-    if (take_word(r, line, code) || take_plan(r, line, code))
+    if (take_word(r, line, code) || take_reason(r, line, code) || take_plan(r, line, code))
         return true;
     r->calls--;
     return false;
+}
+
+/* Whether a line's code is a word of the shelf, or its beginning, and then letters of a set alone. */
+static bool may_be(struct span code, const char *word, const char *letters)
+{
+    const size_t len = strlen(word);
+    if (memcmp(code.at, word, code.len < len ? code.len : len) != 0)
+        return false;
+    for (size_t i = len; i < code.len; i++)
+        if (strchr(letters, code.at[i]) == NULL)
+            return false;
+    return true;
+}
+
+/*
+ * Takes a last line without its line feed, if it is one of the shelf: its end may be lost, so nothing is taken from it
+ * but that it is there.
+ */
+static bool take_cut(struct reading *r, unsigned line, struct span code)
+{
+    const char *digits = " 0123456789";
+    const bool numbers = may_be(code, "refused ", digits) || may_be(code, "stopped ", digits)
+        || may_be(code, "reason ", digits);
+    if (!numbers && !may_be(code, "plan ", " 0123456789ABCDEFabcdef") && !may_be(code, "rented", "")
+        && !may_be(code, "set", "") && !may_be(code, "returned", ""))
+        return false;
+    bytes_addf(&r->sheets->told, "%s:%u: the line is cut%s\n  \"%s\" has no line feed: nothing is taken from it\n"
+        "  what to do: fetch the shelf's lines again; if it ended there, its unit is gone with it, so begin again\n",
+        r->sheets->name, line, numbers ? ": its number or place may be too" : "", shown(code).text);
+    r->sheets->cut = true;
+    return true;
+}
+
+/* What is wrong with a line that is none. */
+static const char *why_no_line(struct span code)
+{
+    struct span rest;
+    if (begins(code, "reason", &rest))
+        return "no reason: they are 1 to 5, each with a time, which is 0 but for 2";
+    if (begins(code, "refused", &rest))
+        return "no line of this shelf: it has a refusal's number and a place, without a 0 before their digits";
+    return "neither hex digits, two a byte, nor a line of the shelf";
 }
 
 static bool take_line(struct reading *r, unsigned line, struct span code)
@@ -224,8 +409,7 @@ static bool take_line(struct reading *r, unsigned line, struct span code)
         return true;
     }
     r->hex.len = before;
-    say("%s:%u: \"%s\" is neither hex digits, two a byte, nor a line of the shelf", r->sheets->name, line,
-        shown(code).text);
+    say("%s:%u: \"%s\" is %s", r->sheets->name, line, shown(code).text, why_no_line(code));
     return false;
 }
 
@@ -233,11 +417,14 @@ static bool read_lines(struct reading *r, const struct bytes *text)
 {
     struct lines lines = lines_of(text);
     struct span line;
-    while (lines_next(&lines, &line))
-        if (!take_line(r, lines.number, code_of(line)))
+    while (lines_next(&lines, &line)) {
+        const struct span code = code_of(line);
+        const bool ended = line.at + line.len < (const char *)text->at + text->len;
+        if ((ended || code.len == 0 || !take_cut(r, lines.number, code)) && !take_line(r, lines.number, code))
             return false;
+    }
     if (r->hex_line > 0) {
-        add_sheet(r, &r->hex, r->hex_line);
+        add_sheet(r, &r->hex, r->hex_line, NULL);
         r->hex = bytes_new();
     }
     return true;
@@ -250,7 +437,7 @@ static bool read_dump(struct reading *r, const struct bytes *text)
         say("%s:%u: this line does not go on with the dump that begins above it", r->sheets->name, wrong);
         return false;
     }
-    add_sheet(r, &r->hex, 0);
+    add_sheet(r, &r->hex, 0, NULL);
     r->hex = bytes_new();
     return true;
 }
@@ -258,7 +445,7 @@ static bool read_dump(struct reading *r, const struct bytes *text)
 /* The file's bytes are the sheet. */
 static bool read_bytes(struct reading *r, struct bytes *all)
 {
-    add_sheet(r, all, 0);
+    add_sheet(r, all, 0, NULL);
     *all = bytes_new();
     return true;
 }
@@ -267,10 +454,9 @@ static bool read_bytes(struct reading *r, struct bytes *all)
 static bool read_file(const char *path, const struct calls *sent, struct sheets *sheets)
 {
     struct bytes all = bytes_new();
-    struct reading r = { .sheets = sheets, .found = bytes_new(), .hex = bytes_new(), .sent = sent };
-    bool good;
-    *sheets = (struct sheets){ input_name(path), NULL, 0, bytes_new(), 0 };
-    good = input_read(path, &all);
+    struct reading r = { .sheets = sheets, .found = bytes_new(), .whys = bytes_new(), .hex = bytes_new(),
+        .sent = sent };
+    bool good = input_read(path, &all);
     if (good && (is_text(&all) || is_wide_text(&all))) {
         text_plain(&all);
         good = dump_is(&all) ? read_dump(&r, &all) : read_lines(&r, &all);
@@ -281,7 +467,12 @@ static bool read_file(const char *path, const struct calls *sent, struct sheets 
     bytes_free(&r.hex);
     sheets->list = (struct found *)(void *)r.found.at;
     sheets->count = r.found.len / sizeof(struct found);
-    if (good && sent != NULL && r.calls == 0)
+    sheets->whys = (struct why *)(void *)r.whys.at;
+    sheets->why_count = r.whys.len / sizeof(struct why);
+    sheets->lines = r.calls;
+    sheets->settings = r.settings;
+    sheets->astray = sheets->astray || r.others > 0;
+    if (good && sent != NULL && r.calls == 0 && !sheets->cut)
         say("%s: there is no line of the shelf in it for the calls of %s", sheets->name, sent->name);
     if (good && r.sent != NULL && r.others > 0)
         say("%s: %u refusal%s that the calls of %s do not explain: other calls were sent", sheets->name, r.others,
@@ -291,17 +482,13 @@ static bool read_file(const char *path, const struct calls *sent, struct sheets 
     return good;
 }
 
-bool sheets_read(const char *path, const char *calls_path, struct sheets *sheets)
+bool sheets_read(const char *path, const char *calls_path, unsigned most_told, struct sheets *sheets)
 {
-    struct calls sent;
-    bool good;
-    if (calls_path == NULL)
-        return read_file(path, NULL, sheets);
-    if (!calls_read(calls_path, &sent))
+    *sheets = (struct sheets){ .name = input_name(path), .most_told = most_told, .sent = { .name = NULL } };
+    if (calls_path != NULL && !calls_read(calls_path, &sheets->sent))
         return false;
-    good = read_file(path, &sent, sheets);
-    calls_free(&sent);
-    return good;
+    sheets->told = bytes_new();
+    return read_file(path, calls_path == NULL ? NULL : &sheets->sent, sheets);
 }
 
 void sheets_free(struct sheets *sheets)
@@ -309,7 +496,10 @@ void sheets_free(struct sheets *sheets)
     for (size_t i = 0; i < sheets->count; i++)
         bytes_free(&sheets->list[i].sheet);
     free(sheets->list);
+    free(sheets->whys);
     bytes_free(&sheets->told);
+    if (sheets->sent.name != NULL)
+        calls_free(&sheets->sent);
     sheets->list = NULL;
     sheets->count = 0;
 }
@@ -317,8 +507,14 @@ void sheets_free(struct sheets *sheets)
 void sheets_tell(const struct sheets *sheets)
 {
     fwrite(sheets->told.at, 1, sheets->told.len, stderr);
-    if (sheets->refusals > MOST_TOLD)
-        say("%s: %u refusals in all, of which the first %d are told", sheets->name, sheets->refusals, MOST_TOLD);
+    if (sheets->refusals > sheets->most_told)
+        say("%s: %u refusals in all, of which the first %u are told; show tells all", sheets->name, sheets->refusals,
+            sheets->most_told);
+}
+
+bool sheets_trouble(const struct sheets *sheets)
+{
+    return sheets->refusals > 0 || sheets->cut;
 }
 
 /* ---- one plan of several ---- */
@@ -348,7 +544,7 @@ static size_t find_plan(const struct sheets *sheets, uint32_t unit, uint32_t ten
 {
     size_t count = 0;
     for (size_t i = 0; i < sheets->count; i++)
-        if (contents_is_plan_of(&sheets->list[i].sheet, unit, tenancy) && ++count == nth)
+        if (contents_is_of(&sheets->list[i].sheet, KIND_PLAN, unit, tenancy) && ++count == nth)
             *plan = &sheets->list[i];
     return count;
 }

@@ -298,7 +298,7 @@ static void say_fault(const struct table *table, uint32_t tenancy, uint64_t answ
     } else if (rp_refusal(answer) == RP_NO_ROOM) {
         faults_add(&faults, "%s: the sheet needs %s bytes, the buffer has %d", table->name,
             grouped(rp_place(answer)).text, RP_LONGEST_SETTINGS);
-        cure = remedy_here(RP_NO_ROOM);
+        cure = remedy_here(RP_NO_ROOM, KIND_SETTINGS);
     } else if (table->count < 1 || table->count > RP_MOST_DISKS) {
         faults_add(&faults, "%s: %zu disks, and a unit has 1 to %d", table->name, table->count, RP_MOST_DISKS);
     } else {

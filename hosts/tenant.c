@@ -1,4 +1,4 @@
-/* The tenant's tool: writes read requests, and reads and shows plans. */
+/* The tenant's tool: writes read requests, and reads and shows plans and the reasons for them. */
 #include <stdio.h>
 #include <string.h>
 
@@ -13,11 +13,14 @@
 #include "sheet.h"
 #include "show.h"
 #include "table.h"
+#include "why.h"
 
 static const char USAGE[] =
     "usage: tenant request UNIT TENANCY DISKS [LIST] [-o FILE]\n"
     "       tenant plan UNIT TENANCY [SHEET] [--nth N] [--disks TABLE [--svg FILE]] [--request LIST]\n"
     "                   [--calls FILE] [--by-block | --json | --line | --time]\n"
+    "       tenant why UNIT TENANCY [ANSWERS] --calls FILE [--nth N] [--block BLOCK [--svg FILE]]\n"
+    "                   [--disk DISK] [--json]\n"
     "       tenant show [SHEET] [--unit UNIT] [--tenancy TENANCY] [--disks N] [--calls FILE]\n"
     "       tenant --help | --version\n";
 
@@ -41,7 +44,8 @@ static const char HELP[] =
     "\n"
     "SHEET is a file, by default standard input: the sheet itself, or its bytes in hex or as xxd\n"
     "or hexdump show them, or what the shelf printed. Of several plans the one of UNIT and TENANCY\n"
-    "is taken. What the shelf refused is told on standard error, and the exit status is 3.\n"
+    "is taken. What the shelf refused is told on standard error, the first 50 calls of it, and the\n"
+    "exit status is 3. Nothing is taken from a last line of the shelf without its line feed.\n"
     "--nth N         the Nth plan of UNIT and TENANCY, where there are several\n"
     "--disks TABLE   the table of disks that the settings sheet was made from (see desk --help), or\n"
     "                that sheet: shows when each disk starts and ends, and the timeline to R\n"
@@ -56,13 +60,28 @@ static const char HELP[] =
     "--line          the line that the bench program prints\n"
     "--time          R alone\n"
     "\n"
-    "show shows any sheet field by field with the places of its bytes, and where it is refused. The\n"
-    "options say what is expected of it; --calls is as above.\n"
+    "why tells why a plan reads a block from a disk, or why not, in the words of what the shelf answered.\n"
+    "\n"
+    "ANSWERS is a file, by default standard input: what the shelf printed, with a line for each call.\n"
+    "--calls FILE    the calls that were sent, as stream wrote them: why BLOCK DISK FILE, and the request\n"
+    "                before it, so that the plan is there to hold the reasons against; without it\n"
+    "                they are told as the lines have them, which is said\n"
+    "--nth N         the Nth request of UNIT and TENANCY that was asked about, where there are several\n"
+    "--block BLOCK   a table of the disks that hold this block\n"
+    "--disk DISK     a table of the blocks that have a copy on this disk; with --block, that one answer\n"
+    "--svg FILE      draws the disks of the block, each to the time when the last block would be in\n"
+    "--json          one line of JSON\n"
+    "\n"
+    "show shows any sheet field by field with the places of its bytes, and where it is refused; of\n"
+    "the shelf's lines every call that it refused as well, on standard output. The options say what\n"
+    "is expected of a sheet; without --disks N, those of a request are checked up to 63. --calls is\n"
+    "as above.\n"
     "\n"
     "Files are written whole or not at all, not at all where something is refused, and never over\n"
     "an input or a read-only file.\n"
-    "Exit status: 0 done; 1 refused, or a file can not be used; 2 called wrongly; 3 the plan is\n"
-    "shown, and the shelf refused another call or stopped.\n";
+    "Exit status: 0 done; 1 refused, or a file can not be used; 2 called wrongly; 3 the plan or\n"
+    "the reasons are shown, and the shelf refused another call, stopped, or ended early, or its\n"
+    "last line is cut.\n";
 
 static int request(char **words)
 {
@@ -122,10 +141,10 @@ static bool read_plan(const struct wish *w, struct plan *plan, bool *told)
     struct sheets sheets;
     const struct found *found;
     bool good;
-    if (!sheets_read(w->places[2], w->calls, &sheets))
+    if (!sheets_read(w->places[2], w->calls, FIRST_TOLD, &sheets))
         return false;
     sheets_tell(&sheets);
-    *told = sheets.refusals > 0;
+    *told = sheets_trouble(&sheets);
     found = sheets_plan(&sheets, w->unit, w->tenancy, w->number);
     good = found != NULL && plan_read(sheets.name, found, w->unit, w->tenancy, plan);
     sheets_free(&sheets);
@@ -213,10 +232,150 @@ static int plan(char **words)
     return !good ? STATUS_BAD : told ? STATUS_TOLD : STATUS_DONE;
 }
 
+/* What `tenant why` is asked for. */
+struct why_wish {
+    const char *places[3];
+    const char *calls, *nth, *block, *disk, *picture;
+    bool json;
+    uint32_t unit, tenancy, number;
+    struct choice choice;
+};
+
+static bool read_why_wish(char **words, struct why_wish *w)
+{
+    const struct option options[] = {
+        { "--calls", &w->calls, NULL }, { "--nth", &w->nth, NULL }, { "--block", &w->block, NULL },
+        { "--disk", &w->disk, NULL }, { "--svg", &w->picture, NULL }, { "--json", NULL, &w->json }, { NULL, NULL, NULL }
+    };
+    memset(w, 0, sizeof *w);
+    if (!options_read(words, w->places, 2, 3, options) || !word_number("UNIT", w->places[0], &w->unit)
+        || !word_number("TENANCY", w->places[1], &w->tenancy)
+        || (w->nth != NULL && !word_number("--nth", w->nth, &w->number))
+        || (w->block != NULL && !word_number("--block", w->block, &w->choice.block))
+        || (w->disk != NULL && !word_number("--disk", w->disk, &w->choice.disk)))
+        return false;
+    w->choice.of_block = w->block != NULL;
+    w->choice.of_disk = w->disk != NULL;
+    if (w->nth != NULL && w->number == 0)
+        say("--nth counts from 1");
+    else if (w->calls == NULL)
+        say("a reason says nothing of its block and disk: the calls are needed, with --calls FILE");
+    else if (w->picture != NULL && (w->block == NULL || w->disk != NULL))
+        say("--svg draws the disks of one block, so it needs --block BLOCK, without --disk");
+    else if (w->picture != NULL && output_is_standard(w->picture))
+        say("--svg %s: standard output gets the text; give the picture a file of its own", w->picture);
+    else
+        return true;
+    return false;
+}
+
+/* Whether something of what is asked for was asked of the shelf, and the lines end before the answer. */
+static bool is_unanswered(const struct choice *choice)
+{
+    const struct question *q = choice->question;
+    for (uint32_t b = 0; b < q->blocks.count; b++)
+        for (uint32_t d = 0; d < q->table.count; d++)
+            if (choice_has(choice, &(struct pair){ .block = b, .disk = d }) && question_unanswered(q, b, d))
+                return true;
+    return false;
+}
+
+/* Says that there is no reason for what is asked for, and how to get it. */
+static void say_none(const struct why_wish *w, const struct sheets *sheets)
+{
+    const struct choice *c = &w->choice;
+    struct bytes more = bytes_new();
+    if (c->of_block && c->of_disk && !question_holds(c->question, c->block, c->disk))
+        bytes_addf(&more, "; the request has no copy of block %u on disk %u", (unsigned)c->block, (unsigned)c->disk);
+    if (is_unanswered(c))
+        say("%s: no answer: the call for it is in %s, and the lines end before it%s", sheets->name, sheets->sent.name,
+            bytes_text(&more));
+    else
+        say("%s: it has no reason for this; the call for it is why %s %s FILE%s%s", sheets->name,
+            w->block != NULL ? w->block : "each", w->disk != NULL ? w->disk : "each",
+            sheets->refusals > 0 ? ", unless that was refused" : "", bytes_text(&more));
+    bytes_free(&more);
+}
+
+/* How the plan is had that the reasons are to be held against. */
+static const char *plan_remedy(const struct question *q)
+{
+    return q->planned_before ? "send the request again after the settings" : "send the request as well";
+}
+
+/* Whether there is an answer to what is asked for; or says why not. */
+static bool is_answered(const struct why_wish *w, const struct sheets *sheets)
+{
+    const struct question *q = w->choice.question;
+    if (w->choice.of_block && w->choice.block >= q->blocks.count)
+        say("--block %u: the request has the blocks 0 to %zu", (unsigned)w->choice.block, q->blocks.count - 1);
+    else if (w->choice.of_disk && w->choice.disk >= q->table.count)
+        say("--disk %u: the settings have the disks 0 to %zu", (unsigned)w->choice.disk, q->table.count - 1);
+    else if (w->picture != NULL && q->plan_line == 0)
+        say("--svg draws times to R, and there is no plan of this request under these settings: %s", plan_remedy(q));
+    else {
+        for (size_t i = 0; i < q->count; i++)
+            if (choice_has(&w->choice, &q->pairs[i]))
+                return true;
+        say_none(w, sheets);
+    }
+    return false;
+}
+
+/* Says it where the reasons are the lines' word alone. */
+static void say_held(const struct question *q, const struct sheets *sheets)
+{
+    if (q->plan_line == 0)
+        say("%s: the plan of this request under these settings is not among the lines, so the reasons are not held "
+            "against it: %s", sheets->name, plan_remedy(q));
+}
+
+/* The picture first: where it can not be written, nothing is shown. */
+static bool put_why(const struct why_wish *w)
+{
+    struct bytes text = bytes_new(), svg = bytes_new();
+    bool good = true;
+    if (w->json)
+        why_json(&w->choice, &text);
+    else
+        why_show(&w->choice, &text);
+    if (w->picture != NULL) {
+        why_draw(w->choice.question, w->choice.block, &svg);
+        good = output_write(w->picture, svg.at, svg.len);
+    }
+    good = good && output_write(NULL, text.at, text.len);
+    bytes_free(&text);
+    bytes_free(&svg);
+    return good;
+}
+
+static int why(char **words)
+{
+    static struct question question;
+    struct why_wish w;
+    struct sheets sheets;
+    bool good, told;
+    if (!read_why_wish(words, &w))
+        return program_usage();
+    if (!sheets_read(w.places[2], w.calls, FIRST_TOLD, &sheets))
+        return STATUS_BAD;
+    sheets_tell(&sheets);
+    w.choice.question = &question;
+    good = question_read(&sheets, w.unit, w.tenancy, w.number, &question) && is_answered(&w, &sheets);
+    if (good) {
+        say_held(&question, &sheets);
+        good = put_why(&w);
+    }
+    told = sheets_trouble(&sheets) || sheets.lines < sheets.sent.count;
+    question_free(&question);
+    sheets_free(&sheets);
+    return !good ? STATUS_BAD : told ? STATUS_TOLD : STATUS_DONE;
+}
+
 int main(int count, char **words)
 {
     static const struct command COMMANDS[] = {
-        { "request", request }, { "plan", plan }, { "show", show_sheets }, { NULL, NULL }
+        { "request", request }, { "plan", plan }, { "why", why }, { "show", show_sheets }, { NULL, NULL }
     };
     static const struct program TENANT = { "tenant", USAGE, HELP, COMMANDS, NULL };
     return program_main(&TENANT, count, words);

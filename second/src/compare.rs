@@ -217,6 +217,16 @@ mod tests {
         assert_eq!(difference(b"a\n", b"a\nb\n").unwrap().ours, "(nothing)");
     }
 
+    /// So that the 20,000 inputs of `make compare` are not the systematic ones alone.
+    #[test]
+    fn the_systematic_inputs_leave_room_for_random_ones() {
+        assert!(bench_inputs::systematic().len() < 8_000);
+        assert!(desk_inputs::systematic().len() < 8_000);
+        let streams = shelf_inputs::systematic();
+        let calls: usize = streams.iter().map(|pieces| pieces.len().max(2) - 1).sum();
+        assert!(calls < 12_000, "{calls}");
+    }
+
     #[test]
     fn the_inputs_reach_every_outcome() {
         let systematic = bench_inputs::systematic();
@@ -236,7 +246,8 @@ mod tests {
     #[test]
     fn the_streams_reach_every_outcome() {
         let systematic = shelf_inputs::systematic();
-        let streams = (0..1_500).map(|index| shelf_stream(&systematic, 1, index).concat());
+        let count = systematic.len() as u64 + 600;
+        let streams = (0..count).map(|index| shelf_stream(&systematic, 1, index).concat());
         let text: String = streams
             .map(|stream| String::from_utf8(shelf::lines(&stream)).unwrap())
             .collect();
@@ -246,6 +257,11 @@ mod tests {
             "set",
             "plan",
             "returned",
+            "reason 1 0",
+            "reason 2 ",
+            "reason 3 0",
+            "reason 4 0",
+            "reason 5 0",
             "stopped 1",
             "stopped 2",
             "stopped 3",

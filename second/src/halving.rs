@@ -1,7 +1,7 @@
-//! The plan by flows: halving on the time, trial of each disk, and the blocks reached.
+//! The plan by flows: halving on the time, trial of each disk, and the blocks reached; and the reasons by fewer copies.
 
 use crate::flow::Network;
-use crate::model::{disks_of, Disk, Plan, MOST_TIME};
+use crate::model::{disks_of, holds, Disk, Plan, Reason, MOST_TIME};
 
 /// The network of a request at a time: source, blocks, disks, sink.
 struct Retrieval {
@@ -35,13 +35,43 @@ fn least_time(disks: &[Disk], copies: &[u64]) -> u64 {
     let (mut early, mut late) = (0, u64::from(MOST_TIME));
     while late - early > 1 {
         let middle = (early + late) / 2;
-        if Retrieval::new(disks, copies, middle).fill() == copies.len() {
+        if in_time(disks, copies, middle) {
             late = middle;
         } else {
             early = middle;
         }
     }
     late
+}
+
+/// Whether every block can be read by a time.
+fn in_time(disks: &[Disk], copies: &[u64], time: u64) -> bool {
+    Retrieval::new(disks, copies, time).fill() == copies.len()
+}
+
+/// The reason for a block and a disk: a block with one copy left is a block forced to that disk.
+pub fn reason(disks: &[Disk], copies: &[u64], block: usize, disk: usize) -> Reason {
+    if !holds(copies[block], disk) {
+        return Reason::NoCopy;
+    }
+    let time = least_time(disks, copies);
+    let mut forced = copies.to_vec();
+    forced[block] = 1 << disk;
+    if !in_time(disks, &forced, time) {
+        return Reason::Later(least_time(disks, &forced) as u32);
+    }
+    let chosen = first_schedule(disks, copies, time);
+    if usize::from(chosen[block]) == disk {
+        return Reason::Chosen;
+    }
+    for (copies, disk) in forced.iter_mut().zip(&chosen[..block]) {
+        *copies = 1 << disk;
+    }
+    if in_time(disks, &forced, time) {
+        Reason::LowerToo
+    } else {
+        Reason::NotWithEarlier
+    }
 }
 
 /// Each block in turn gets the lowest disk that leaves the blocks after it a way.

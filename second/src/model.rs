@@ -24,6 +24,29 @@ pub struct Plan {
     pub short: Vec<u16>,
 }
 
+/// Why a block is or is not read from a disk; with `Later` goes the least time if it were.
+#[derive(Clone, Copy, Debug, PartialEq, Eq)]
+pub enum Reason {
+    NoCopy,
+    Later(u32),
+    NotWithEarlier,
+    LowerToo,
+    Chosen,
+}
+
+impl Reason {
+    /// The reason's number in the document's order, and its time or 0.
+    pub fn numbers(self) -> (u32, u32) {
+        match self {
+            Reason::NoCopy => (1, 0),
+            Reason::Later(time) => (2, time),
+            Reason::NotWithEarlier => (3, 0),
+            Reason::LowerToo => (4, 0),
+            Reason::Chosen => (5, 0),
+        }
+    }
+}
+
 impl Disk {
     fn start(&self) -> u64 {
         u64::from(self.delay) + u64::from(self.load)

@@ -4,9 +4,10 @@
 //!     rent 300 -> rented
 //!     settings 0107ac02 01 (040001)*1 -> set
 //!     request 15 0207ac02 00 -> plan 0307ac02000000
+//!     reason 0 2 0207ac02 01 020001 -> reason 1 0
 //!     return 300 -> returned
 //!     calls 40 1 300
-//!     bytes 05 -> stopped 3
+//!     bytes 63 -> stopped 3
 //!
 //! A sheet is hex, with spaces between its parts; (HEX)*N stands for N times HEX, and A..B for the numbers from A to B in
 //! sheet form. A plan may be written so as well. `calls COUNT SEED TENANCY` are so many generated calls, whole and damaged, to the
@@ -108,6 +109,14 @@ fn bytes_of(word: &str, rest: &str) -> Option<Vec<u8>> {
             bytes.extend(numbers(&[3, room.parse().ok()?, sheet.len() as u32]));
             bytes.extend(sheet);
         }
+        "reason" => {
+            let mut words = rest.splitn(3, ' ');
+            let block = words.next()?.parse().ok()?;
+            let disk = words.next()?.parse().ok()?;
+            let sheet = parts(words.next()?)?;
+            bytes.extend(numbers(&[5, block, disk, sheet.len() as u32]));
+            bytes.extend(sheet);
+        }
         "bytes" => bytes.extend(parts(rest)?),
         _ => return None,
     }
@@ -160,6 +169,12 @@ mod tests {
     fn a_run_is_its_bytes() {
         let run = "unit 7\nrent 300 -> rented\nreturn 300 -> returned\n";
         assert_eq!(stream(run), Ok(vec![7, 1, 0xac, 2, 4, 0xac, 2]));
+    }
+
+    #[test]
+    fn a_reason_is_a_call() {
+        let run = "unit 7\nreason 300 2 0207 -> refused 1 2\n";
+        assert_eq!(stream(run), Ok(vec![7, 5, 0xac, 2, 2, 2, 2, 7]));
     }
 
     #[test]

@@ -53,6 +53,14 @@ fn call(unit: &mut Unit, kind: u32, input: &mut impl BufRead) -> Result<String, 
         4 => unit
             .give_back(number(input)?)
             .map(|()| "returned".to_string()),
+        5 => {
+            let (block, disk) = (number(input)?, number(input)?);
+            let request = sheet(input)?;
+            unit.reason(&request, block, disk).map(|reason| {
+                let (reason, time) = reason.numbers();
+                format!("reason {reason} {time}")
+            })
+        }
         _ => return Err(KIND),
     };
     Ok(answer.unwrap_or_else(|refused| refused.to_string()))
@@ -146,12 +154,31 @@ mod tests {
     }
 
     #[test]
+    fn reasons() {
+        let mut stream = vec![7, 1, 5, 2, 13, 1, 7, 5, 3, 4, 0, 1, 3, 2, 0, 10, 0, 0];
+        let p6 = [2, 7, 5, 4, 2, 0, 1, 2, 0, 1, 2, 0, 1, 2, 1, 2];
+        for (block, disk) in [(0, 2), (3, 2), (2, 0), (0, 1), (2, 1), (4, 0), (0, 3)] {
+            stream.extend([5, block, disk, 16]);
+            stream.extend(p6);
+        }
+        stream.extend([5, 9, 0xFF, 0xFF, 0xFF, 0xFF, 0x0F, 3, 2, 7, 6]);
+        let answer = "rented\nset\nreason 1 0\nreason 2 10\nreason 3 0\nreason 4 0\nreason 5 0\n\
+            refused 16 0\nrefused 16 0\nrefused 5 2\n";
+        assert_eq!(text(&stream), answer);
+        assert_eq!(text(&[7, 5]), "stopped 1\n");
+        assert_eq!(text(&[7, 5, 0, 0x80, 0]), "stopped 2\n");
+        assert_eq!(text(&[7, 5, 0, 0, 2, 1]), "stopped 1\n");
+        assert_eq!(text(&[7, 5, 0, 0, 0x8E, 0x48]), "stopped 6\n");
+        assert_eq!(text(&[7, 5, 0, 0, 0]), "refused 1 0\n");
+    }
+
+    #[test]
     fn damaged_streams() {
         assert_eq!(text(&[]), "stopped 1\n");
         assert_eq!(text(&[7]), "");
         assert_eq!(text(&[7, 0x80]), "stopped 1\n");
         assert_eq!(text(&[7, 0x81, 0]), "stopped 2\n");
-        assert_eq!(text(&[7, 5]), "stopped 3\n");
+        assert_eq!(text(&[7, 6]), "stopped 3\n");
         assert_eq!(text(&[7, 0]), "stopped 3\n");
         assert_eq!(text(&[7, 1]), "stopped 1\n");
         assert_eq!(text(&[7, 1, 5, 2, 2, 1]), "rented\nstopped 1\n");

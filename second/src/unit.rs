@@ -1,8 +1,8 @@
 //! The unit's life.
 
-use crate::model::Disk;
+use crate::model::{Disk, Reason};
 use crate::planner;
-use crate::refusal::{Refused, NOT_ABOVE, NOT_RETURNED, RENTED};
+use crate::refusal::{Refused, NOT_ABOVE, NOT_RETURNED, NO_SUCH, RENTED};
 use crate::sheets::{read_request, read_settings, write_plan};
 
 /// A unit; an empty table means no settings yet.
@@ -59,6 +59,16 @@ impl Unit {
         let copies = read_request(sheet, self.number, self.tenancy(), self.disks())?;
         let plan = planner::plan(&self.disks, &copies);
         write_plan(self.number, self.tenancy(), &plan, room)
+    }
+
+    /// Why the plan of a request reads a block from a disk, or does not; after the request's own refusals 16.
+    pub fn reason(&self, sheet: &[u8], block: u32, disk: u32) -> Result<Reason, Refused> {
+        let copies = read_request(sheet, self.number, self.tenancy(), self.disks())?;
+        if block as usize >= copies.len() || disk >= self.disks() {
+            return Err(NO_SUCH.nowhere());
+        }
+        let (block, disk) = (block as usize, disk as usize);
+        Ok(planner::reason(&self.disks, &copies, block, disk))
     }
 
     pub fn give_back(&mut self, tenancy: u32) -> Result<(), Refused> {
@@ -121,6 +131,26 @@ mod tests {
             unit.request(&[2, 7, 5, 1, 1, 0], 99),
             Ok(vec![3, 7, 5, 1, 5, 0, 1, 0])
         );
+    }
+
+    #[test]
+    fn reasons_and_their_refusals() {
+        let mut unit = Unit::new(7);
+        let p4 = [2, 7, 5, 2, 2, 0, 1, 1, 0];
+        assert_eq!(unit.reason(&p4, 9, 9), Err(OTHER_TENANCY.at(2)));
+        unit.rent(5).unwrap();
+        assert_eq!(unit.reason(&p4, 9, 9), Err(NO_SETTINGS.at(3)));
+        unit.settings(&SETTINGS).unwrap();
+        assert_eq!(unit.reason(&p4, 0, 0), Ok(Reason::Later(9)));
+        assert_eq!(unit.reason(&p4, 0, 1), Ok(Reason::Chosen));
+        assert_eq!(unit.reason(&p4, 1, 2), Ok(Reason::NoCopy));
+        assert_eq!(unit.reason(&p4, 2, 0), Err(NO_SUCH.at(0)));
+        assert_eq!(unit.reason(&p4, 0, 3), Err(NO_SUCH.at(0)));
+        assert_eq!(unit.reason(&p4, 0, 63), Err(NO_SUCH.at(0)));
+        assert_eq!(unit.reason(&p4, u32::MAX, u32::MAX), Err(NO_SUCH.at(0)));
+        assert_eq!(unit.reason(&[2, 7, 5, 0], 0, 0), Err(NO_SUCH.at(0)));
+        assert_eq!(unit.reason(&[2, 7, 5, 0, 0], 0, 0), Err(TRAILING.at(4)));
+        assert_eq!(unit.reason(&p4[..8], 9, 9), Err(ENDS.at(8)));
     }
 
     #[test]

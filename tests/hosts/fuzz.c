@@ -93,8 +93,16 @@ static const char CALLS_SENT[] = "\x07" "\x01\xAC\x02" "\x03\x0E\x05\x02\x07\xAC
 static const char LINES[] = "rented\nrefused 10 4\nrefused 1 7\nset\nrefused 11 9\nrefused 16 6\nplan 0307ac02000000\n"
     "returned\n";
 
-/* Kinds of input: texts, the sheets themselves, and last calls. */
-enum { TABLE, LIST, TEXT_SHEET, BYTE_SHEET, CALLS, KINDS };
+/* The same for the five reasons. */
+#define SAMPLE "\x11\x02\x07\xAC\x02\x04\x02\x00\x01\x02\x00\x01\x02\x00\x01\x02\x01\x02"
+static const char WHYS_SENT[] = "\x07" "\x01\xAC\x02" "\x02\x0E\x01\x07\xAC\x02\x03\x04\x00\x01\x03\x02\x00\x0A\x00\x00"
+    "\x05\x00\x02" SAMPLE "\x03\x94\x17" SAMPLE "\x05\x03\x02" SAMPLE "\x05\x02\x00" SAMPLE "\x05\x00\x01" SAMPLE
+    "\x05\x02\x01" SAMPLE "\x05\x04\x00" SAMPLE;
+static const char WHYS[] = "rented\nset\nreason 1 0\nplan " PLAN "\nreason 2 10\nreason 3 0\nreason 4 0\nreason 5 0\n"
+    "refused 16 0\n";
+
+/* Kinds of input: texts, the sheets themselves, and last calls and answers to them. */
+enum { TABLE, LIST, TEXT_SHEET, BYTE_SHEET, CALLS, WHY_CALLS, ANSWERS, KINDS };
 
 /* A sheet as bytes: settings, a request, plans short and long. */
 static void add_bytes(struct bytes *into)
@@ -130,8 +138,12 @@ static void add_good(struct bytes *into, unsigned kind)
         bytes_add(into, CALLS_SENT, sizeof CALLS_SENT - 1);
         return;
     }
-    text = kind == TABLE ? TABLES[chance(COUNT_OF(TABLES))] : kind == LIST ? LISTS[chance(COUNT_OF(LISTS))]
-        : SHEETS[chance(COUNT_OF(SHEETS))];
+    if (kind == WHY_CALLS) {
+        bytes_add(into, WHYS_SENT, sizeof WHYS_SENT - 1);
+        return;
+    }
+    text = kind == ANSWERS ? WHYS : kind == TABLE ? TABLES[chance(COUNT_OF(TABLES))]
+        : kind == LIST ? LISTS[chance(COUNT_OF(LISTS))] : SHEETS[chance(COUNT_OF(SHEETS))];
     bytes_add(into, text, strlen(text));
 }
 
@@ -140,8 +152,9 @@ static void add_good(struct bytes *into, unsigned kind)
 static const char *const PIECES[] = {
     "4294967295", "4294967296", "0", "-1", "63", "64", "65", "1000001", "\"", "\"\"", "#", ",", ";", "\t", "\r", "\n",
     "\r\n", ":", "-", "block 3:", "disk", "cost,load,delay\n", "sep=;\n", "*\n", "00000000: ", "0000010 ",
-    "refused 5\n", "refused 16 3\n", "refused 11 15\n", "refused 6 7 8\n", "stopped 3\n", "plan ", "plan " PLAN "\n",
-    "rented\n", "\xEF\xBB\xBF", "\xFF\xFE", "\xFE\xFF", "\xC3\xA4", "\x1B[31m", "%s%n", "\x80", "\x80\x00",
+    "refused 5\n", "refused 16 3\n", "refused 11 15\n", "refused 6 7 8\n", "refused 16 3", "refused 016 3\n",
+    "stopped 3\n", "plan ", "plan " PLAN "\n", "rented\n", "reason 2 10\n", "reason 6 0\n", "reason 4 0", "\xEF\xBB\xBF", "\xFF\xFE", "\xFE\xFF", "\xC3\xA4",
+    "\x1B[31m", "%s%n", "\x80", "\x80\x00",
     "\xFF\xFF\xFF\xFF\x0F", "\xFF\xFF\xFF\xFF\x10", "|", "  ", "\x7F", ",,,,,,,,,,,,,,,,,,,,",
     "1;2;3;4;5;6;7;8;9;10;11;12;13;14;15;16;17;18",
 };
@@ -220,6 +233,14 @@ static const struct command {
         IS_JSON },
     { tenant_main, { "tenant", "plan", "7", "300", "in", "--disks", "table", "--request", "list", "--svg", "picture" },
         TEXT_SHEET, IS_TEXT },
+    { tenant_main, { "tenant", "why", "7", "300", "in", "--calls", "whysent" }, ANSWERS, IS_TEXT },
+    { tenant_main, { "tenant", "why", "7", "300", "in", "--calls", "whysent", "--block", "2", "--svg", "picture" },
+        ANSWERS, IS_TEXT },
+    { tenant_main, { "tenant", "why", "7", "300", "whys", "--calls", "in", "--nth", "1", "--json" }, WHY_CALLS,
+        IS_JSON },
+    { tenant_main, { "tenant", "why", "7", "300", "whys", "--calls", "in", "--disk", "1" }, WHY_CALLS, IS_TEXT },
+    { desk_main, { "desk", "show", "in", "--calls", "whysent" }, ANSWERS, IS_TEXT },
+    { stream_main, { "stream", "7", "why", "each", "each", "in" }, BYTE_SHEET, IS_STREAM },
     { tenant_main, { "tenant", "show", "in" }, BYTE_SHEET, IS_TEXT },
     { desk_main, { "desk", "show", "in", "--unit", "7", "--disks", "6" }, TEXT_SHEET, IS_TEXT },
     { stream_main, { "stream", "7", "settings", "in", "request", "2964", "in" }, BYTE_SHEET, IS_STREAM },
@@ -412,6 +433,8 @@ int main(int count, char **words)
     put_file("plan", PLAN "\n", strlen(PLAN "\n"));
     put_file("calls", CALLS_SENT, sizeof CALLS_SENT - 1);
     put_file("lines", LINES, strlen(LINES));
+    put_file("whysent", WHYS_SENT, sizeof WHYS_SENT - 1);
+    put_file("whys", WHYS, strlen(WHYS));
     if (count == 5)
         return try_input(seed, strtoull(words[4], NULL, 10)) ? 0 : 1;
     for (uint64_t i = 0; i < inputs && failures < MOST_FAILURES; i++)

@@ -108,6 +108,10 @@ if [ "$PKG_CONFIG" != none ] && [ "$SECOND" != none ]; then
         && grep -q '^reel: the shelf: refused 11 (needs 15)' "$OUT/log" && grep -q '^reel: the shelf stopped' "$OUT/log" \
         && diff "$here/reel.txt" "$OUT/lines" >>"$OUT/log"
     passed "install: examples/reel.c tells what the shelf refused beside the plan" $? "$OUT/log"
+    (cd "$OUT/stranger" && { ./reel ask | "$prefix/bin/shelf"; echo refused 16; printf 'refused 16 1'; } | ./reel book >"$OUT/lines" 2>"$OUT/log")
+    [ $? -eq 1 ] && grep -q '^reel: the shelf: refused 16 (an older shelf: no place): a disk' "$OUT/log" \
+        && grep -q '^reel: the last line is cut' "$OUT/log" && ! grep -q 'place 1' "$OUT/log" && diff "$here/reel.txt" "$OUT/lines" >>"$OUT/log"
+    passed "install: examples/reel.c keeps a refusal without a place, and takes nothing from a line that is cut" $? "$OUT/log"
     (cd "$OUT/stranger" && PKG_CONFIG_PATH="$OUT/pre fix/lib/pkgconfig" && export PKG_CONFIG_PATH \
         && eval "$CC reel.c $($PKG_CONFIG --cflags --libs rippleplank) -o reel" && ./reel ask | "$OUT/pre fix/bin/shelf" | ./reel book) 2>"$OUT/log" \
         | diff "$here/reel.txt" - >>"$OUT/log"

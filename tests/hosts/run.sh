@@ -105,7 +105,7 @@ for file in "$here"/cases/*.case; do
     passed "case: $(basename "$file" .case)" $? "$OUT/log"
 done
 
-# The hire, from end to end, and its picture
+# The hire, from end to end, and its pictures
 if [ "$SHELF" != none ]; then
     DESK=$OUT/desk TENANT=$OUT/tenant STREAM=$OUT/stream SHELF=$SHELF OUT=$OUT/hire \
         sh examples/hire.sh >"$OUT/hire.txt" 2>"$OUT/log"
@@ -114,6 +114,8 @@ if [ "$SHELF" != none ]; then
     passed 'hire: what it shows' $? "$OUT/log"
     diff examples/hire.svg "$OUT/hire/hire.svg" >"$OUT/log" 2>&1
     passed 'hire: the picture' $? "$OUT/log"
+    diff examples/why.svg "$OUT/hire/why.svg" >"$OUT/log" 2>&1
+    passed 'hire: the picture of a block' $? "$OUT/log"
 fi
 
 # What the tools read in a sheet that the shelf refused is refused so, at that place: settings and requests, of generated calls
@@ -123,11 +125,41 @@ if [ "$SHELF" != none ] && [ "$SECOND" != none ]; then
     for index in $(seq 0 40); do
         "$SECOND" input shelf 7 "$index" >"$OUT/calls"
         $SHELF <"$OUT/calls" >"$OUT/answers"
-        "$OUT/desk" show "$OUT/answers" --calls "$OUT/calls" 2>&1 >/dev/null | grep -a 'other calls\|Sanitizer' >>"$OUT/log"
+        "$OUT/desk" show "$OUT/answers" --calls "$OUT/calls" 2>&1 >"$OUT/report" | grep -a 'other calls\|Sanitizer' >>"$OUT/log"
+        # an older shelf's lines have no place: the calls give it
+        sed 's/^\(refused [0-9]*\) .*/\1/' "$OUT/answers" >"$OUT/placeless"
+        "$OUT/desk" show "$OUT/placeless" --calls "$OUT/calls" 2>&1 >"$OUT/lines" | grep -a 'other calls\|Sanitizer' >>"$OUT/log"
+        grep '^refused' "$OUT/report" | sed '/^refused 11:/d' >"$OUT/expected"
+        grep '^refused' "$OUT/lines" | sed '/^refused 11:/d' | diff "$OUT/expected" - >>"$OUT/log"
         refusals=$((refusals + $(grep -c '^refused' "$OUT/answers")))
     done
     [ ! -s "$OUT/log" ] && [ "$refusals" -ge 1000 ]
     passed "places: $refusals refusals of the shelf, each at the field that the tools find" $? "$OUT/log"
+fi
+
+# Every reason of the shelf is told, and none that can not be true: generated tables and lists, each copy and what is no copy
+if [ "$SHELF" != none ]; then
+    : >"$OUT/log"
+    : >"$OUT/reasons"
+    for seed in $(seq 1 24); do
+        awk -v seed="$seed" 'BEGIN { srand(seed); print "cost,load,delay"; for (d = 0; d < 4; d++)
+            printf "%d,%d,%d\n", 1 + int(6 * rand()), int(4 * rand()), int(4 * rand()) }' >"$OUT/table"
+        awk -v seed="$seed" 'BEGIN { srand(seed); for (b = 0; b < 2 + seed % 6; b++) print int(4 * rand()), int(4 * rand()), int(4 * rand()) }' \
+            | awk '{ split("", on); line = ""; for (i = 1; i <= 3; i++) if (!on[$i]++) line = line " " $i; print line }' >"$OUT/list"
+        "$OUT/desk" settings 7 300 "$OUT/table" -o "$OUT/settings" && "$OUT/tenant" request 7 300 4 "$OUT/list" -o "$OUT/request" \
+            && "$OUT/stream" -o "$OUT/calls" 7 rent 300 settings "$OUT/settings" request 2964 "$OUT/request" why each each "$OUT/request" \
+                why 0 0 "$OUT/request" why 0 1 "$OUT/request" why 0 2 "$OUT/request" why 0 3 "$OUT/request" \
+            && $SHELF <"$OUT/calls" >"$OUT/answers" && "$OUT/tenant" why 7 300 "$OUT/answers" --calls "$OUT/calls" --json >"$OUT/lines" \
+            || echo "seed $seed: status $?" >>"$OUT/log"
+        tr '{' '\n' <"$OUT/lines" | sed -n 's/.*"reason":\([1-5]\).*/\1/p' >>"$OUT/reasons"
+        # each copy in turn has the shelf's line; the four that follow are the first block's again
+        grep '^reason' "$OUT/answers" | sed '$d' | sed '$d' | sed '$d' | sed '$d' >"$OUT/expected"
+        tr '{' '\n' <"$OUT/lines" | sed -n 's/.*"reason":\([2-5]\),"time":\([0-9]*\).*/reason \1 \2/p; s/.*"reason":\([2-5]\),"chosen".*/reason \1 0/p' \
+            | diff "$OUT/expected" - >>"$OUT/log"
+    done 2>>"$OUT/log"
+    counts=$(sort "$OUT/reasons" | uniq -c | awk '{ printf "%s%s of %s", (NR > 1 ? ", " : ""), $1, $2 }')
+    [ ! -s "$OUT/log" ] && [ "$(sort -u "$OUT/reasons" | tr -d '\n')" = 12345 ]
+    passed "why: a shelf's reasons, $counts" $? "$OUT/log"
 fi
 
 # Damaged inputs to the programs

@@ -4,6 +4,7 @@
 --     first-time          the first schedule within the capacities at t is the first of those with time t
 --     short-same          the short set by any list of the same blocks
 --     named, sorted       the short set and the first schedule in the lent buffers
+--     least-of, spelling  the least time alone
 --     solved, solving     all of it is the plan of the case that the slices spell
 use Prim.Native.Nat.{ℕ, _-_, _≤_, _<_}
 use mathlib.Core.Path.{_≡_, sym, ap, subst, fun-ext, _∙_}
@@ -38,9 +39,10 @@ use Rattle.places.proofs.Shifts.{cleared-seated}
 use Rattle.timing.specs.Times.{Blank, Timed, Least, Restored}
 use Rattle.timing.proofs.Stuck.{within-caps}
 use Rattle.order.specs.Ordered.{Ordered}
-use Rattle.engine.specs.Spelled.{Ready}
+use Rattle.engine.specs.Spelled.{Spellable, Loaded, Ready}
+use Rattle.engine.specs.Planned.{LeastOf}
 use Rattle.basics.specs.Lists.{listed}
-use Rattle.engine.specs.Parts.{Loaded, Stored, Listed, Fresh, Named, Sorted, Solving, Solved}
+use Rattle.engine.specs.Parts.{Stored, Listed, Fresh, Named, Sorted, Solving, Solved}
 
 pub blank : {n q : ℕ} {masks costs starts caps seats counts next prev out seats′ counts′ next′ prev′ : List ℕ}
     → Fresh n q masks costs starts caps seats counts next prev out → Cleared n q seats′ counts′ next′ prev′
@@ -149,32 +151,48 @@ solved {masks = masks} {costs = costs} {starts = starts} {disks = disks} {short 
       time-most = k .time;
     }
 
+-- the time of the masks' schedule is that of the copies that they were loaded from
+pub least-of : {copies costs starts masks caps seats counts next prev out : List ℕ} {t : ℕ} → Table (length costs) costs starts
+    → Loaded copies masks → Least (length costs) (length copies) masks costs starts caps seats counts next prev out t
+    → LeastOf copies costs starts t
+least-of {copies} {costs} {starts} {t = t} tb l k =
+    let case : (ℕ → ℕ → Bool) → Case = λ c.
+    record { disks = length costs; blocks = length copies; start = λ d. getD starts d 0; cost = λ d. getD costs d 0; copy = c } in
+    let h : LeastTime (case (holds copies)) t = rw (← same-copies l) (least-time tb k) in
+    record { least = h; most = k .time }
+
 -- what the slices spell, with nothing in the other lists
+pub spelling : {copies costs starts : List ℕ} (masks : List ℕ) → Spellable copies costs starts → Loaded copies masks
+    → Fresh (length costs) (length copies) masks costs starts (replicate disksMost 0) (replicate blocksMost 0) (replicate placesMost 0)
+    (replicate nodesMost 0) (replicate nodesMost 0) (replicate placesMost 0)
+spelling masks r l =
+    record {
+      table = r .table;
+      copies = record {
+        small = λ b d h t. r .copied .small b d h (rw (l .same b) at t);
+        some = λ b h. let x = r .copied .some b h in (x .0, rw (l .same b) (x .1));
+      };
+      long = length-replicate {A = ℕ} disksMost 0;
+      empty = record {
+        disks = r .table .few;
+        blocks = r .blocks;
+        long-seats = length-replicate {A = ℕ} blocksMost 0;
+        long-counts = length-replicate {A = ℕ} placesMost 0;
+        long-next = length-replicate {A = ℕ} nodesMost 0;
+        long-prev = length-replicate {A = ℕ} nodesMost 0;
+        bounded-next = λ x. omega (arith, replicate-at {A = ℕ} 0 nodesMost x);
+        bounded-prev = λ x. omega (arith, replicate-at {A = ℕ} 0 nodesMost x);
+        none = λ d _. replicate-at {A = ℕ} 0 placesMost d;
+      };
+      wide = length-replicate {A = ℕ} placesMost 0;
+    }
+
 pub solving : {copies costs starts disks short : List ℕ} (masks : List ℕ) → Ready copies costs starts disks short → Loaded copies masks
     → Solving (length costs) (length copies) masks costs starts (replicate disksMost 0) (replicate blocksMost 0) (replicate placesMost 0)
     (replicate nodesMost 0) (replicate nodesMost 0) (replicate placesMost 0) disks short
 solving masks r l =
     record {
-      fresh = record {
-        table = r .table;
-        copies = record {
-          small = λ b d h t. r .copied .small b d h (rw (l .same b) at t);
-          some = λ b h. let x = r .copied .some b h in (x .0, rw (l .same b) (x .1));
-        };
-        long = length-replicate {A = ℕ} disksMost 0;
-        empty = record {
-          disks = r .table .few;
-          blocks = r .blocks;
-          long-seats = length-replicate {A = ℕ} blocksMost 0;
-          long-counts = length-replicate {A = ℕ} placesMost 0;
-          long-next = length-replicate {A = ℕ} nodesMost 0;
-          long-prev = length-replicate {A = ℕ} nodesMost 0;
-          bounded-next = λ x. omega (arith, replicate-at {A = ℕ} 0 nodesMost x);
-          bounded-prev = λ x. omega (arith, replicate-at {A = ℕ} 0 nodesMost x);
-          none = λ d _. replicate-at {A = ℕ} 0 placesMost d;
-        };
-        wide = length-replicate {A = ℕ} placesMost 0;
-      };
+      fresh = spelling masks (r .spellable) l;
       long = l .long;
       disks-room = r .disks-room;
       short-room = r .short-room;

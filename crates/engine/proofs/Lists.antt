@@ -20,7 +20,8 @@ use Rattle.basics.proofs.Lists.{rises-by, listed-take}
 use Rattle.basics.proofs.Tests.{by-cases, differ, or-right, not-here}
 use Rattle.basics.proofs.Count.{any-ext, any-some}
 use Rattle.engine.specs.Planned.{Front}
-use Rattle.engine.specs.Parts.{Loaded, Stored}
+use Rattle.engine.specs.Spelled.{Loaded}
+use Rattle.engine.specs.Parts.{Stored}
 
 pub record Copied (b : ℕ) (from to₀ to : List ℕ) : Type 0 where
   pub long : length to ≡ length to₀

@@ -16,7 +16,7 @@ use Rattle.basics.proofs.Tests.{by-cases}
 use Rattle.basics.proofs.Lists.{rising-same}
 use Rattle.model.specs.Order.{Agree}
 use Rattle.model.proofs.Plan.{plan-unique}
-use Rattle.engine.specs.Spelled.{spelled}
+use Rattle.engine.specs.Spelled.{spelled, Loaded}
 use Rattle.engine.specs.Planned.{Front, Planned}
 use Rattle.engine.specs.declared.Found.{Found}
 
@@ -44,6 +44,9 @@ module _ {q m₁ m₂ : ℕ} {short short₁ short₂ : List ℕ} (f₁ : Front 
         ∙ getD-take m₂ short₂ i 0 (omega (arith, l, same-size)))
         (λ t. let l = ltb-false i m₁ t in f₁ .short-rest i l ∙ sym (f₂ .short-rest i (omega (arith, l, same-size))))),
   )
+
+pub load-unique : (copies a b : List ℕ) → Loaded copies a → Loaded copies b → a ≡ b
+load-unique copies a b p q = ext-getD 0 a b (p .long ∙ sym (q .long)) (λ i _. p .same i ∙ sym (q .same i))
 
 pub planned-unique : (copies costs starts disks short disks₁ short₁ disks₂ short₂ : List ℕ) (r₁ r₂ : Found)
     → Planned copies costs starts disks short disks₁ short₁ r₁ → Planned copies costs starts disks short disks₂ short₂ r₂

@@ -1,5 +1,5 @@
 -- What the private functions promise.
---     Loaded, Stored, Listed    copies into an array; places and blocks into the lent buffers
+--     Stored, Listed            places and blocks into the lent buffers
 --     Fresh                     a case, and nothing in the other lists
 --     Naming, Named             the short set in the lent buffer
 --     Sorted                    the first schedule in the lent buffer
@@ -18,13 +18,9 @@ use Rattle.places.specs.Table.{maskedCase, Table, Copies}
 use Rattle.places.specs.Among.{among}
 use Rattle.places.specs.Seats.{Empty}
 use Rattle.timing.specs.Times.{Timed}
+use Rattle.engine.specs.Spelled.{Loaded}
 use Rattle.engine.specs.Planned.{Front, Planned}
 use Rattle.engine.specs.declared.Found.{Found}
-
--- the masks are the copies, and 0 beyond
-pub record Loaded (copies masks : List ℕ) : Type 0 where
-  pub long : length masks ≡ blocksMost
-  pub same : (b : ℕ) → getD masks b 0 ≡ getD copies b 0
 
 -- the first q entries are the places, and the rest is as it was
 pub record Stored (q : ℕ) (seats disks disks′ : List ℕ) : Type 0 where

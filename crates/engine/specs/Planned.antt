@@ -5,9 +5,15 @@ use mathlib.Core.List.{List}
 use lib.ListN.{getD, length, take}
 use Rattle.basics.specs.Limits.{timeMost}
 use Rattle.basics.specs.Lists.{Rises, listed}
+use Rattle.model.specs.Time.{LeastTime}
 use Rattle.model.specs.Plan.{Optimal}
 use Rattle.engine.specs.Spelled.{spelled}
 use Rattle.engine.specs.declared.Found.{Found}
+
+-- r is the least time of the case
+pub record LeastOf (copies costs starts : List ℕ) (r : ℕ) : Type 0 where
+  pub least : LeastTime (spelled copies costs starts) r
+  pub most : r ≤ timeMost
 
 -- at the buffer's start stand m of the numbers below q, rising; behind them it is as it was
 pub record Front (q m : ℕ) (short short′ : List ℕ) : Type 0 where

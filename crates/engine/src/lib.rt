@@ -5,9 +5,9 @@ ghost use lib.ListN.{length, getD};
 ghost use Rattle.basics.specs.Limits.{blocksMost};
 ghost use Rattle.timing.specs.Times.{Least};
 ghost use Rattle.order.specs.Ordered.{Scheduled};
-ghost use Rattle.engine.specs.Spelled.{Ready};
-ghost use Rattle.engine.specs.Planned.{Planned};
-ghost use Rattle.engine.specs.Parts.{Loaded, Stored, Listed, Fresh, Naming, Named, Sorted, Solving, Solved};
+ghost use Rattle.engine.specs.Spelled.{Spellable, Loaded, Ready};
+ghost use Rattle.engine.specs.Planned.{LeastOf, Planned};
+ghost use Rattle.engine.specs.Parts.{Stored, Listed, Fresh, Naming, Named, Sorted, Solving, Solved};
 use basics::BLOCKS;
 use basics::Capacities;
 use basics::Counts;
@@ -26,7 +26,7 @@ pub struct Found {
 }
 
 // The copies of all blocks, in an array of zeros.
-fn load(copies: &[u64], masks: &mut Masks)
+pub fn load(copies: &[u64], masks: &mut Masks)
     requires { ⌜ (length (now copies) ≤ blocksMost) × (length (now masks) ≡ blocksMost) × ((b : ℕ) → getD (now masks) b 0 ≡ 0) ⌝ }
     ensures { λ _. ⌜ Loaded (now (copies .entry)) (now (masks .exit)) ⌝ }
 {
@@ -210,6 +210,34 @@ fn solve(
     );
     sort_out(n, q, masks, caps, seats, counts, next, prev, out, disks);
     Found { time, size }
+}
+
+// The least time of the case that the slices spell.
+pub fn least(copies: &[u64], costs: &[u32], starts: &[u32]) -> u32
+    requires { ⌜ Spellable (now copies) (now costs) (now starts) ⌝ }
+    ensures { λ r. ⌜ LeastOf (now (copies .entry)) (now (costs .entry)) (now (starts .entry)) r ⌝ }
+{
+    let mut masks = [0u64; BLOCKS];
+    load(copies, &mut masks);
+    let mut caps = [0u32; DISKS];
+    let mut seats = [0u8; BLOCKS];
+    let mut counts = [0u32; PLACES];
+    let mut next = [0u16; NODES];
+    let mut prev = [0u16; NODES];
+    let mut out = [0u64; PLACES];
+    schedule(
+        costs.len(),
+        copies.len(),
+        costs,
+        starts,
+        &masks,
+        &mut caps,
+        &mut seats,
+        &mut counts,
+        &mut next,
+        &mut prev,
+        &mut out,
+    )
 }
 
 // The plan of the case that the slices spell: disks[b] is the disk of block b, short[..size] the short set, time the least time.

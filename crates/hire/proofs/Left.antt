@@ -26,8 +26,11 @@ use Rattle.unit.specs.Life.{accepted, refused, Outcome, takes, refuses, rent, s
 use Rattle.unit.specs.Request.{askedOf}
 use Rattle.unit.specs.Unit.{newUnit, tenancyOf, tenanted, returned}
 use Rattle.unit.proofs.Lives.{tenancy-free, rent-low, rent-taken, back-free}
+use Rattle.why.specs.Why.{within, Explains}
+use Rattle.why.proofs.Unique.{explains-unique}
 use Rattle.hire.specs.Agrees.{Alike, Parts, Agrees, end, same, part}
-use Rattle.hire.specs.Calls.{Call, renting, setting, asking, returning, Reply, said, Comes, sent, Does, Runs, none, next}
+use Rattle.hire.specs.Calls.{Call, renting, setting, asking, returning, explaining}
+use Rattle.hire.specs.Calls.{Reply, said, explained, Comes, sent, Does, Runs, none, next}
 use Rattle.hire.proofs.Clause.{clash, rent-same}
 use Rattle.hire.proofs.Runs.{runs-unique, unit-number, unit-sound}
 
@@ -106,6 +109,9 @@ module _ {u v : Shelf} (k : Alike u v) where
   step (asking z out) r s x y p q =
       let same : p .0 ≡ q .0 = plans-unique (askedOf u z) (p .1) (subst (λ o. Plans o (q .0)) (same-asked z) (q .1)) in
       stay (p .2 ∙ same-sent (p .0) (q .0) out same ∙ sym (q .2)) (p .3) (q .3)
+  step (explaining z b d) r s x y p q =
+      let there = subst (λ o. Explains (within o b d) b d (q .0)) (same-asked z) (q .1) in
+      stay (p .2 ∙ ap explained (explains-unique (askedOf u z) b d (p .1) there) ∙ sym (q .2)) (p .3) (q .3)
   step (returning t) r s x y p q =
       let a = back-free u t (k .free) in
       let b = back-free v t (k .free′) in

@@ -1,5 +1,5 @@
 -- Runs of calls to a unit.
---     rent-does .. request-does          what the methods promise is a call's reply
+--     rent-does .. why-does              what the methods promise is a call's reply
 --     does-unique, runs-unique           a unit and its calls fix all replies
 --     unit-number                        no call changes a unit's number
 --     does-sound, runs-sound, unit-sound every unit that comes from New and the calls is sound
@@ -26,7 +26,11 @@ use Rattle.unit.specs.Sound.{Sound}
 use Rattle.unit.specs.Told.{told, toldVerdict}
 use Rattle.unit.specs.Unit.{newUnit, tenancyOf, tenanted, returned}
 use Rattle.unit.proofs.Sound.{sound-new, sound-rent, sound-set, sound-back}
-use Rattle.hire.specs.Calls.{Call, renting, setting, asking, returning, Reply, said, planned, Comes, sent, Does, Runs, none, next}
+use Rattle.why.specs.declared.Reasoned.{Reasoned}
+use Rattle.why.specs.Why.{within, Explains, toldWhy, Explained}
+use Rattle.why.proofs.Unique.{explains-unique, explains-exists}
+use Rattle.hire.specs.Calls.{Call, renting, setting, asking, returning, explaining}
+use Rattle.hire.specs.Calls.{Reply, said, planned, explained, Comes, sent, Does, Runs, none, next}
 
 -- ---- what the methods promise is a call's reply
 
@@ -51,6 +55,11 @@ pub request-does : {u : Shelf} {s out after : List ℕ} {r : Requested} → Repl
 unfolding Does sent
 request-does a = let w = a .reply in (w .plan, w .plans, ap₂ planned (w .sent .answer) (w .sent .held), a .same)
 
+pub why-does : (u : Shelf) (s : List ℕ) (b d : ℕ) (r : Reasoned) → Explained u s b d r
+    → Does u (explaining s b d) (explained (toldWhy (r .answer))) (r .unit)
+unfolding Does
+why-does u s b d r a = (toldWhy (r .answer), a .says, refl, a .same)
+
 -- ---- a unit and its calls fix all replies
 
 pub does-unique : (u : Shelf) (c : Call) (r s : Reply) (v w : Shelf) → Does u c r v → Does u c s w → (r ≡ s) × (v ≡ w)
@@ -60,6 +69,10 @@ does-unique u (setting x) r s v w p q = (p .0 ∙ sym (q .0), p .1 ∙ sym (q .1
 does-unique u (returning t) r s v w p q = (p .0 ∙ sym (q .0), p .1 ∙ sym (q .1))
 does-unique u (asking x out) r s v w p q = (
   p .2 ∙ ap (λ (z : Out Plan). sent (draftOf (u .number) (tenancyOf u) z) out) (plans-unique (askedOf u x) (p .1) (q .1)) ∙ sym (q .2),
+  p .3 ∙ sym (q .3),
+)
+does-unique u (explaining x b d) r s v w p q = (
+  p .2 ∙ ap explained (explains-unique (askedOf u x) b d (p .1) (q .1)) ∙ sym (q .2),
   p .3 ∙ sym (q .3),
 )
 
@@ -98,6 +111,7 @@ does-number u (renting t) r v p = ap (λ (x : Shelf). x .number) (p .1) ∙ rent
 does-number u (setting s) r v p = ap (λ (x : Shelf). x .number) (p .1) ∙ set-number u s
 does-number u (returning t) r v p = ap (λ (x : Shelf). x .number) (p .1) ∙ back-number u t
 does-number u (asking s out) r v p = ap (λ (x : Shelf). x .number) (p .3)
+does-number u (explaining s b d) r v p = ap (λ (x : Shelf). x .number) (p .3)
 
 runs-number : {u v : Shelf} {cs : List Call} {rs : List Reply} → Runs u cs rs v → v .number ≡ u .number
 runs-number none = refl
@@ -116,6 +130,7 @@ does-sound u (renting t) r v p w = subst Sound (sym (p .1)) (sound-rent u w t)
 does-sound u (setting s) r v p w = subst Sound (sym (p .1)) (sound-set u w s)
 does-sound u (returning t) r v p w = subst Sound (sym (p .1)) (sound-back u w t)
 does-sound u (asking s out) r v p w = subst Sound (sym (p .3)) w
+does-sound u (explaining s b d) r v p w = subst Sound (sym (p .3)) w
 
 pub runs-sound : {u v : Shelf} {cs : List Call} {rs : List Reply} → Runs u cs rs v → Sound u → Sound v
 runs-sound none w = w
@@ -134,6 +149,7 @@ does-exists u (returning t) w = (said (giveBack u t .verdict), giveBack u t .uni
 does-exists u (asking s out) w =
     let x = plans-exist (u .number) (tenancyOf u) s (w .proper) in
     (sent (draftOf (u .number) (tenancyOf u) (x .0)) out, u, (x .0, x .1, refl, refl))
+does-exists u (explaining s b d) w = let x = explains-exists u s b d w in (explained (x .0), u, (x .0, x .1, refl, refl))
 
 pub runs-exist : (u : Shelf) (cs : List Call) → Sound u → (rs : List Reply) × (v : Shelf) × Runs u cs rs v
 runs-exist u [] w = ([], u, none)

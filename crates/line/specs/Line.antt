@@ -11,7 +11,7 @@ use Rattle.field.specs.Put.{spellAll}
 use Rattle.plan.specs.Plan.{Plan}
 use Rattle.plan.specs.Draft.{counted}
 use Rattle.line.specs.declared.Word.{Word}
-use Rattle.line.specs.declared.Word.the-variants.{Rented, Set, Returned, Refused, RefusedAt, Stopped}
+use Rattle.line.specs.declared.Word.the-variants.{Rented, Set, Returned, Refused, RefusedAt, Stopped, Reason}
 use Rattle.line.specs.Text.{ascii, spaced, hex}
 
 -- a program's buffer for a line; the longest sheet that has room there, in hex behind "plan " and before the line feed
@@ -40,6 +40,9 @@ word-refused = ascii "refused"
 unfoldable pub word-stopped : List ℕ
 word-stopped = ascii "stopped"
 
+unfoldable pub word-reason : List ℕ
+word-reason = ascii "reason"
+
 unfoldable pub word-plan : List ℕ
 word-plan = ascii "plan"
 
@@ -47,7 +50,7 @@ word-plan = ascii "plan"
 unfoldable pub bar : List ℕ
 bar = ascii " |"
 
--- one word, or a word and a number; a refusal with its place, or without
+-- a word; a word and a number; a refusal with its place, or without; a reason's number and its time
 unfoldable pub spoken : Word → List ℕ
 spoken Rented = word-rented ++ feed
 spoken Set = word-set ++ feed
@@ -55,6 +58,7 @@ spoken Returned = word-returned ++ feed
 spoken (Refused n) = word-refused ++ (spaced n ++ feed)
 spoken (RefusedAt n p) = word-refused ++ (spaced n ++ (spaced p ++ feed))
 spoken (Stopped n) = word-stopped ++ (spaced n ++ feed)
+spoken (Reason k t) = word-reason ++ (spaced k ++ (spaced t ++ feed))
 
 -- plan, unit, tenancy, Q, R, the disks by block, the short set, parted by single spaces
 unfoldable pub planText : ℕ → ℕ → Plan → List ℕ

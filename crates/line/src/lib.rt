@@ -27,6 +27,7 @@ pub enum Word {
     Refused(u32),
     RefusedAt(u32, usize),
     Stopped(u32),
+    Reason(u32, u32),
 }
 
 // Puts a byte at a place and answers the place after it; where it has no room, answers the same place.
@@ -139,7 +140,7 @@ fn numbered(word: &[u8], n: u32, out: &mut [u8]) -> usize
     put_byte(10, out, q)
 }
 
-// A word, a number and a place, and the end of the line.
+// A word, a number and a place or a time, and the end of the line.
 fn placed(word: &[u8], n: u32, place: usize, out: &mut [u8]) -> usize
     ensures { λ r. ⌜ Adds (now (word .entry) ++ (spaced n ++ (spaced place ++ feed))) (now (out .entry)) 0 (now (out .exit)) r ⌝ }
 {
@@ -159,6 +160,7 @@ pub fn say(w: Word, line: &mut Line) -> usize
         Word::Refused(n) => numbered(b"refused", n, line),
         Word::RefusedAt(n, place) => placed(b"refused", n, place, line),
         Word::Stopped(n) => numbered(b"stopped", n, line),
+        Word::Reason(k, t) => placed(b"reason", k, t as usize, line),
     }
 }
 

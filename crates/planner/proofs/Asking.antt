@@ -1,6 +1,7 @@
 -- What `ask` and `plan_into` answer.
 --     asks-case, asks-refused       what the reader of requests accepted, with the columns; what it refused
---     lent                          the lists that were asked for can be lent, cut to Q and N
+--     lent, lent-case               the lists that were asked for can be lent, cut to Q and N; their case is the one asked for
+--     refused-of                    what was refused
 --     answered-plan, answered-not   the sheet of the plan was sent; the refusal stands
 use mathlib.Core.Path.{_≡_, refl, sym, ap, _∙_, subst}
 use mathlib.Core.List.{List, [], map}
@@ -127,7 +128,7 @@ module _ {bytes : ℕ} (r : Spelling) (q : ℕ) where
   cut-of (refused n) a h =
       absurd (let k : got q bytes ≡ refused n = sym (ap (toldAnswer bytes) h) ∙ a .answer in let z : _≡_ {A = ℕ} 0 1 = cc in omega arith)
 
--- what was asked can be lent, and its case is that of the lists
+-- what was asked can be lent
 pub lent : (number tenancy : ℕ) {t : Table} (s : List ℕ) {r : Spelling} {q : ℕ} → Proper t → Asks (asked number tenancy t s) (length s) r
     → r .answer ≡ Accepted q → Lent r q
 lent number tenancy s {r} {q} w a h =
@@ -135,15 +136,19 @@ lent number tenancy s {r} {q} w a h =
     let p = asked-plannable w number tenancy s (c .case) in
     (c .copies-long, c .costs-long, c .starts-long, record { starts-long = c .same-long; plannable = p })
 
+-- and its case is that of the lists
+pub lent-case : {o : Out Case} {bytes : ℕ} {r : Spelling} {q : ℕ} → Asks o bytes r → r .answer ≡ Accepted q → o ≡ got (caseLent r q) bytes
+lent-case {o} {bytes} {r} {q} a h = cut-of r q o a h .case
+
 -- ---- the answer
 
 pub answered-plan : {number tenancy : ℕ} {o : Out Case} {bytes : ℕ} {r : Spelling} {q : ℕ} {out after : List ℕ} {x : Written}
     → Asks o bytes r → r .answer ≡ Accepted q → Solved number tenancy (caseLent r q) out x after → Answered number tenancy o out x after
 unfolding Plans draftOf
 answered-plan {o = o} {bytes = bytes} {r = r} {q = q} a h w =
-    record { plan = got (w .plan) bytes; plans = rw (cut-of r q o a h .case) (w .plan, w .is, refl); sent = w .sent }
+    record { plan = got (w .plan) bytes; plans = rw (lent-case a h) (w .plan, w .is, refl); sent = w .sent }
 
-refused-of : (o : Out Case) {bytes : ℕ} (r : Spelling) {e : Fault} → Asks o bytes r → r .answer ≡ Refused e → o ≡ refused (noteOf e)
+pub refused-of : (o : Out Case) {bytes : ℕ} (r : Spelling) {e : Fault} → Asks o bytes r → r .answer ≡ Refused e → o ≡ refused (noteOf e)
 unfolding toldAnswer sized
 refused-of (got m i) {bytes} r {e} a h =
     let k : refused (noteOf e) ≡ got (m .blocks) i = sym (ap (toldAnswer bytes) h) ∙ a .answer in

@@ -1,5 +1,6 @@
 -- What the engine found is the plan of the case that the lists spell.
---     ready          the lists can be lent to the engine
+--     spellable      the lists are within the engine's ranges
+--     ready          and can be lent to it
 --     found-plan     what the engine found, cut to the request's blocks
 use mathlib.Core.Path.{_≡_, refl, sym, _∙_, subst, fun-ext}
 use mathlib.Core.List.{List}
@@ -17,15 +18,14 @@ use Rattle.model.specs.Case.{Held}
 use Rattle.model.specs.Plan.{Optimal}
 use Rattle.engine.specs.declared.Found.{Found}
 use Rattle.engine.specs.Planned.{Planned}
-use Rattle.engine.specs.Spelled.{spelled, Ready}
+use Rattle.engine.specs.Spelled.{spelled, Spellable, Ready}
 use Rattle.planner.specs.Asked.{PlanFor}
 use Rattle.planner.specs.Parts.{Solvable, cutTo}
 use Rattle.planner.proofs.Plannable.{plan-for}
 
-pub ready : {copies costs starts : List ℕ} (disks short : List ℕ) → Solvable copies costs starts
-    → length disks ≡ blocksMost → length short ≡ blocksMost → Ready copies costs starts disks short
+pub spellable : {copies costs starts : List ℕ} → Solvable copies costs starts → Spellable copies costs starts
 unfolding Held
-ready {copies} disks short w k l =
+spellable w =
     let p = w .plannable in
     record {
       blocks = p .blocks-few;
@@ -38,9 +38,13 @@ ready {copies} disks short w k l =
         soon = p .start-most;
       };
       copied = record { small = p .low; some = λ b h. let x = p .held b h in (x .0, x .2) };
-      disks-room = omega (arith, p .blocks-few);
-      short-room = omega (arith, p .blocks-few);
     }
+
+pub ready : {copies costs starts : List ℕ} (disks short : List ℕ) → Solvable copies costs starts
+    → length disks ≡ blocksMost → length short ≡ blocksMost → Ready copies costs starts disks short
+ready disks short w k l =
+    let p = w .plannable in
+    record { spellable = spellable w; disks-room = omega (arith, p .blocks-few); short-room = omega (arith, p .blocks-few) }
 
 -- ---- the plan
 

@@ -1,5 +1,5 @@
--- Laws of a turn: the line of each outcome, of a request, of each call; what a turn leaves; and that there is no second answer.
-use mathlib.Core.Path.{_≡_, refl, sym, ap, _∙_, subst}
+-- Laws of a turn: the line of each outcome, of a request, of a question, of each call; what a turn leaves; no second answer.
+use mathlib.Core.Path.{_≡_, refl, sym, ap, ap₂, _∙_, subst}
 use mathlib.Core.Bool.{Bool, true, false, _&&_, not}
 use mathlib.Core.List.{List, [], _∷_, _++_}
 use Prim.Native.Nat.{ℕ, zero, suc, _+_, _-_, _≤_, _<_}
@@ -23,20 +23,24 @@ use Rattle.field.specs.declared.Verdict.the-variants.{Accepted, Refused as Deni
 use Rattle.unit.specs.declared.Done.{Done}
 use Rattle.unit.specs.declared.Requested.{Requested}
 use Rattle.unit.specs.declared.Unit.{Unit}
-use Rattle.hire.specs.Calls.{asking, said, planned, Does}
+use Rattle.hire.specs.Calls.{asking, said, planned, explained, Does}
 use Rattle.unit.specs.Life.{Verdict, accepted, Outcome, rent, set, giveBack, refused as denied}
-use Rattle.unit.specs.Request.{Replied}
+use Rattle.unit.specs.Request.{askedOf, Replied}
 use Rattle.unit.specs.Sound.{Sound}
 use Rattle.unit.specs.Told.{told, toldVerdict}
 use Rattle.unit.specs.Unit.{newUnit}
 use Rattle.hire.proofs.Runs.{rent-does, set-does, back-does, request-does}
 use Rattle.unit.proofs.Replies.{replied-within}
+use Rattle.reason.specs.declared.Reason.{Reason}
+use Rattle.why.specs.declared.Why.{Why}
+use Rattle.why.specs.declared.Why.the-variants.{Told, Refused as NotTold}
+use Rattle.why.specs.Why.{within, Explains, toldWhy, numbered, timed}
 use Rattle.stream.specs.declared.Call.{Call}
-use Rattle.stream.specs.declared.Call.the-variants.{Rent, Settings, Request, Return, Refused as NoCall}
-use Rattle.stream.specs.Call.{roomMost, Asked, rents, sets, requests, returns, asked, toldCall, Held, Framed}
+use Rattle.stream.specs.declared.Call.the-variants.{Rent, Settings, Request, Return, Why as Question, Refused as NoCall}
+use Rattle.stream.specs.Call.{roomMost, Asked, rents, sets, requests, returns, whys, asked, toldCall, Held, Framed}
 use Rattle.stream.specs.Frame.{part, Within}
 use Rattle.line.specs.declared.Word.{Word}
-use Rattle.line.specs.declared.Word.the-variants.{Rented, Set, Returned, RefusedAt, Stopped}
+use Rattle.line.specs.declared.Word.the-variants.{Rented, Set, Returned, RefusedAt, Stopped, Reason as Tells}
 use Rattle.line.specs.Line.{spoken, sheetLine}
 use Rattle.line.specs.Printed.{Printed}
 use Rattle.line.proofs.Adding.{no-line, printed-unique}
@@ -46,7 +50,7 @@ use Rattle.service.specs.declared.Next.the-variants.{Served, Wants, Done
 use Rattle.service.specs.declared.Shelf.{Shelf}
 use Rattle.service.specs.declared.Turn.{Turn}
 use Rattle.service.specs.Shelf.{Due, opens, asks, due, shelfOf, callOf, acceptedLine, lineOf, Serves, lastLine, waits, Comes, Turned}
-use Rattle.service.specs.Parts.{verdictLine, Answers, Plans}
+use Rattle.service.specs.Parts.{verdictLine, Answers, Plans, Reasoned}
 
 -- ---- the lines
 
@@ -113,6 +117,31 @@ module _ (u : Unit) (room : ℕ) (s out : List ℕ) (m : out ≡ replicate room 
 -- the buffer that is lent, out of all of it
 pub lent : (room most : ℕ) → room ≤ most → take {A = ℕ} room (replicate most 0) ≡ replicate room 0
 lent room most h = take-zeros room most h
+
+-- ---- a question why
+
+-- the reply, from what is promised of the answer
+module _ (u : Unit) (b d : ℕ) (s : List ℕ) (r : Why) (a : Explains (within (askedOf u s) b d) b d (toldWhy r))
+    {buf buf′ : List ℕ} {n : ℕ} where
+  -- its line, where the answer is known
+  reasoned : (x : Why) → r ≡ x → Printed (lineOf (whys b d s) (explained (toldWhy x))) buf n buf′ → Reasoned u b d s buf n buf′
+  unfolding callOf Does
+  reasoned x q p =
+      record {
+        reply = explained (toldWhy r);
+        does = (toldWhy r, a, refl, refl);
+        printed = printed-same (ap (λ (y : Why). lineOf (whys b d s) (explained (toldWhy y))) (sym q)) p;
+      }
+
+  pub why-told : (x : Reason) → r ≡ Told x → {k t : ℕ} → k ≡ numbered x → t ≡ timed x → Printed (spoken (Tells k t)) buf n buf′
+      → Reasoned u b d s buf n buf′
+  unfolding lineOf toldWhy
+  why-told x q e f p = reasoned (Told x) q (printed-same (ap₂ (λ (k t : ℕ). spoken (Tells k t)) e f) p)
+
+  pub why-refused : (e : Fault) → r ≡ NotTold e → Printed (spoken (RefusedAt (numberOf (e .refusal)) (e .place))) buf n buf′
+      → Reasoned u b d s buf n buf′
+  unfolding lineOf toldWhy
+  why-refused e q p = reasoned (NotTold e) q p
 
 -- ---- nothing whole is there
 
@@ -227,6 +256,15 @@ turned-request sh {s} ended w room from e o q p =
     turned-call sh s ended (requests room (part s from e)) e (lineOf (requests room (part s from e)) (p .reply)) (asked-as w q) refl refl
     (p .reply, sh .unit, p .does, refl, ap (λ (b : Bool). record { unit = sh .unit; opened = b }) o) (p .printed)
 
+pub turned-why : (sh : Shelf) {s : List ℕ} {r : Call} (ended : Bool) → Framed s (asked s 0) r
+    → {out after : List ℕ} {n : ℕ} (b d from e : ℕ)
+    → sh .opened ≡ true → r ≡ Question b d from e → Reasoned (sh .unit) b d (take (e - from) (drop from s)) out n after
+    → Turned sh s ended (due true s 0) out (record { next = Served; used = e; length = n; shelf = sh }) after
+unfolding toldCall part Serves shelfOf
+turned-why sh {s} ended w b d from e o q p =
+    turned-call sh s ended (whys b d (part s from e)) e (lineOf (whys b d (part s from e)) (p .reply)) (asked-as w q) refl refl
+    (p .reply, sh .unit, p .does, refl, ap (λ (y : Bool). record { unit = sh .unit; opened = y }) o) (p .printed)
+
 -- where a call's sheet lies
 pub held-settings : {s : List ℕ} {o : Out Asked} {r : Call} → Framed s o r → (from e : ℕ) → r ≡ Settings from e → Within s from e
 unfolding Held
@@ -236,3 +274,7 @@ pub held-request : {s : List ℕ} {o : Out Asked} {r : Call} → Framed s o r �
     → Within s from e × (room ≤ roomMost)
 unfolding Held
 held-request {s} w room from e q = subst (Held s) q (w .held)
+
+pub held-why : {s : List ℕ} {o : Out Asked} {r : Call} → Framed s o r → (b d from e : ℕ) → r ≡ Question b d from e → Within s from e
+unfolding Held
+held-why {s} w b d from e q = subst (Held s) q (w .held)

@@ -2,6 +2,7 @@
 --     verdictLine      a word where a call was accepted, else its refusal
 --     Answers          the turn of a call that was done
 --     Plans            the line of a request
+--     Reasoned         the line of a question why
 use Prim.Native.Nat.{ℕ}
 use mathlib.Core.Path.{_≡_}
 use mathlib.Core.List.{List}
@@ -15,7 +16,7 @@ use Rattle.line.specs.declared.Word.{Word}
 use Rattle.line.specs.declared.Word.the-variants.{RefusedAt}
 use Rattle.line.specs.Line.{spoken}
 use Rattle.line.specs.Printed.{Printed}
-use Rattle.stream.specs.Call.{requests}
+use Rattle.stream.specs.Call.{requests, whys}
 use Rattle.service.specs.declared.Next.the-variants.{Served}
 use Rattle.service.specs.declared.Turn.{Turn}
 use Rattle.service.specs.Shelf.{shelfOf, callOf, lineOf}
@@ -34,3 +35,8 @@ pub record Plans (u : Unit) (room : ℕ) (sheet out : List ℕ) (n : ℕ) (after
   pub reply : Reply
   pub does : Does u (callOf (requests room sheet)) reply u
   pub printed : Printed (lineOf (requests room sheet) reply) out n after
+
+pub record Reasoned (u : Unit) (b d : ℕ) (sheet out : List ℕ) (n : ℕ) (after : List ℕ) : Type 0 where
+  pub reply : Reply
+  pub does : Does u (callOf (whys b d sheet)) reply u
+  pub printed : Printed (lineOf (whys b d sheet) reply) out n after

@@ -14,13 +14,14 @@ use Rattle.basics.specs.Choice.{pick}
 use Rattle.field.specs.Field.{number}
 use Rattle.field.specs.Sheet.{Note, Out, got, refused, Parser, _>>=_, pure}
 use Rattle.unit.specs.declared.Unit.{Unit}
-use Rattle.hire.specs.Calls.{Call, renting, setting, asking, returning, Reply, said, planned, Does}
+use Rattle.hire.specs.Calls.{Call, renting, setting, asking, returning, explaining, Reply, said, planned, explained, Does}
 use Rattle.unit.specs.Life.{accepted, refused as denied}
 use Rattle.unit.specs.Unit.{newUnit}
-use Rattle.line.specs.declared.Word.the-variants.{Rented, Set, Returned, RefusedAt, Stopped}
+use Rattle.line.specs.declared.Word.the-variants.{Rented, Set, Returned, RefusedAt, Stopped, Reason}
 use Rattle.line.specs.Line.{spoken, sheetLine}
 use Rattle.line.specs.Printed.{Printed}
-use Rattle.stream.specs.Call.{Asked, rents, sets, requests, returns, asked}
+use Rattle.stream.specs.Call.{Asked, rents, sets, requests, returns, whys, asked}
+use Rattle.why.specs.Why.{numbered, timed}
 use Rattle.service.specs.declared.Next.{Next}
 use Rattle.service.specs.declared.Next.the-variants.{Served, Wants, Done}
 use Rattle.service.specs.declared.Shelf.{Shelf}
@@ -52,20 +53,24 @@ callOf (rents t) = renting t
 callOf (sets s) = setting s
 callOf (requests room s) = asking s (replicate room 0)
 callOf (returns t) = returning t
+callOf (whys b d s) = explaining s b d
 
--- the line of a call that was accepted; a request's is its plan
+-- the line of a call that was accepted; a request's is its plan, a question's its reason
 unfoldable pub acceptedLine : Asked → List ℕ
 acceptedLine (rents t) = spoken Rented
 acceptedLine (sets s) = spoken Set
 acceptedLine (requests room s) = []
 acceptedLine (returns t) = spoken Returned
+acceptedLine (whys b d s) = []
 
--- a word, the plan sheet in hex, or the refusal with its place
+-- a word, the plan sheet in hex, the reason with its time, or the refusal with its place
 unfoldable pub lineOf : Asked → Reply → List ℕ
 lineOf a (said accepted) = acceptedLine a
 lineOf a (said (denied n)) = spoken (RefusedAt (n .number) (n .place))
 lineOf a (planned (got x n) bytes) = sheetLine (take n bytes)
 lineOf a (planned (refused n) bytes) = spoken (RefusedAt (n .number) (n .place))
+lineOf a (explained (got r e)) = spoken (Reason (numbered r) (timed r))
+lineOf a (explained (refused n)) = spoken (RefusedAt (n .number) (n .place))
 
 -- the unit's number has no line
 unfoldable pub Serves : Shelf → Due → List ℕ → Shelf → Type 0

@@ -12,6 +12,7 @@ use stream::Call;
 use stream::ROOM_MOST;
 use unit::Done;
 use unit::Unit;
+use why::Why;
 ghost use Prim.Native.Nat.{_≤_};
 ghost use mathlib.Core.Bool.{true, false, _&&_};
 ghost use mathlib.Core.Path.{_≡_};
@@ -25,7 +26,7 @@ ghost use Rattle.unit.specs.Told.{toldVerdict};
 ghost use Rattle.line.specs.Printed.{Printed};
 ghost use Rattle.service.specs.Shelf.{due, closed, Turned};
 ghost use Rattle.service.specs.Shelf.{waits as waitsOf};
-ghost use Rattle.service.specs.Parts.{verdictLine, Answers, Plans};
+ghost use Rattle.service.specs.Parts.{verdictLine, Answers, Plans, Reasoned};
 
 // A unit as a process: its number is due first, and then its calls.
 pub struct Shelf {
@@ -96,6 +97,19 @@ fn request(u: Unit, room: usize, sheet: &[u8], line: &mut Line) -> usize
     match answer {
         Written::Length(n) => line::sheet_line(&out[..n], line),
         Written::Refused(e) => refuse_at(e, line),
+    }
+}
+
+// Why a request's plan reads a block from a disk, or doesn't.
+fn explain(u: Unit, sheet: &[u8], block: u32, disk: u32, line: &mut Line) -> usize
+    requires { ⌜ Sound u ⌝ }
+    ensures { λ r. ⌜ Reasoned u block disk (now (sheet .entry)) (now (line .entry)) r (now (line .exit)) ⌝ }
+{
+    let said = why::explain(u, sheet, block, disk);
+    let answer = said.answer;
+    match answer {
+        Why::Told(r) => say(Word::Reason(why::number_of(r), why::time_of(r)), line),
+        Why::Refused(e) => refuse_at(e, line),
     }
 }
 
@@ -176,6 +190,15 @@ fn call(shelf: Shelf, s: &[u8], ended: bool, line: &mut Line) -> Turn
         Call::Settings(from, used) => served(Word::Set, u.settings(&s[from..used]), used, line),
         Call::Request(room, from, used) => {
             let length = request(u, room, &s[from..used], line);
+            Turn {
+                next: Next::Served,
+                used,
+                length,
+                shelf,
+            }
+        }
+        Call::Why(block, disk, from, used) => {
+            let length = explain(u, &s[from..used], block, disk, line);
             Turn {
                 next: Next::Served,
                 used,

@@ -23,10 +23,10 @@ use Rattle.field.proofs.Values.{between-within, between-range}
 use Rattle.stream.specs.declared.Span.{Span}
 use Rattle.stream.specs.declared.Span.the-variants.{Part, Refused as NoSheet}
 use Rattle.stream.specs.declared.Call.{Call}
-use Rattle.stream.specs.declared.Call.the-variants.{Rent, Settings, Request, Return, Refused}
+use Rattle.stream.specs.declared.Call.the-variants.{Rent, Settings, Request, Return, Why, Refused}
 use Rattle.stream.specs.Frame.{bytes, sheet, part, Within, Spans}
-use Rattle.stream.specs.Call.{roomMost, Asked, rents, returns, ofTenancy, ofSettings, ofRequest, none, behind, asked, toldCall, Held}
-use Rattle.stream.specs.Call.{Framed}
+use Rattle.stream.specs.Call.{roomMost, Asked, rents, returns, ofTenancy, ofSettings, ofRequest, ofWhy, none, behind, asked}
+use Rattle.stream.specs.Call.{toldCall, Held, Framed}
 
 -- ---- a number lies within the input
 
@@ -138,6 +138,26 @@ module _ (s : List ℕ) (at : ℕ) where
   unfolding ofRequest
   request-stops x h = framed-refused x (stops (inside 0 roomMost 6) _ s at h)
 
+  -- a question's block, disk and sheet
+  module _ (b e : ℕ) (h : number s at ≡ got b e) where
+    module _ (d f : ℕ) (k : number s e ≡ got d f) where
+      pub why-framed : (from to : ℕ) → (sheet s f ≡ got (part s from to) to) × Within s from to → Framed s (ofWhy s at) (Why b d from to)
+      unfolding ofWhy pure toldCall Held
+      why-framed from to p =
+          record { answer = sym (next number _ s at h ∙ next number _ s e k ∙ next sheet _ s f (p .0)); held = p .1 }
+
+      pub why-sheet-stops : (x : Fault) → sheet s f ≡ refused (noteOf x) → Framed s (ofWhy s at) (Refused x)
+      unfolding ofWhy
+      why-sheet-stops x p = framed-refused x (next number _ s at h ∙ next number _ s e k ∙ stops sheet _ s f p)
+
+    pub why-disk-stops : (x : Fault) → number s e ≡ refused (noteOf x) → Framed s (ofWhy s at) (Refused x)
+    unfolding ofWhy
+    why-disk-stops x p = framed-refused x (next number _ s at h ∙ stops number _ s e p)
+
+  pub why-stops : (x : Fault) → number s at ≡ refused (noteOf x) → Framed s (ofWhy s at) (Refused x)
+  unfolding ofWhy
+  why-stops x h = framed-refused x (stops number _ s at h)
+
   -- by the call's number
   module _ (c : ℕ) {r : Call} where
     pub first : c ≡ 1 → Framed s (ofTenancy rents s at) r → Framed s (behind c s at) r
@@ -163,12 +183,19 @@ module _ (s : List ℕ) (at : ℕ) where
               (ap (λ (p : Parser Asked). p s at) (pick-false _ _ (ne-eqb c 1 n₁) ∙ pick-false _ _ (ne-eqb c 2 n₂)
               ∙ pick-false _ _ (ne-eqb c 3 n₃) ∙ pick-true _ _ (eq-eqb c 4 q))) w
 
-  pub unknown-call : (c : ℕ) → (c ≡ 1 → ⊥) → (c ≡ 2 → ⊥) → (c ≡ 3 → ⊥) → (c ≡ 4 → ⊥) → (x : Fault) → noteOf x ≡ unplaced 3
-      → Framed s (behind c s at) (Refused x)
+          module _ (n₄ : c ≡ 4 → ⊥) where
+            pub fifth : c ≡ 5 → Framed s (ofWhy s at) r → Framed s (behind c s at) r
+            unfolding behind
+            fifth q w = framed-same
+                (ap (λ (p : Parser Asked). p s at) (pick-false _ _ (ne-eqb c 1 n₁) ∙ pick-false _ _ (ne-eqb c 2 n₂)
+                ∙ pick-false _ _ (ne-eqb c 3 n₃) ∙ pick-false _ _ (ne-eqb c 4 n₄) ∙ pick-true _ _ (eq-eqb c 5 q))) w
+
+  pub unknown-call : (c : ℕ) → (c ≡ 1 → ⊥) → (c ≡ 2 → ⊥) → (c ≡ 3 → ⊥) → (c ≡ 4 → ⊥) → (c ≡ 5 → ⊥) → (x : Fault)
+      → noteOf x ≡ unplaced 3 → Framed s (behind c s at) (Refused x)
   unfolding behind none
-  unknown-call c n₁ n₂ n₃ n₄ x k =
+  unknown-call c n₁ n₂ n₃ n₄ n₅ x k =
       framed-refused x (ap (λ (p : Parser Asked). p s at) (pick-false _ _ (ne-eqb c 1 n₁) ∙ pick-false _ _ (ne-eqb c 2 n₂)
-      ∙ pick-false _ _ (ne-eqb c 3 n₃) ∙ pick-false _ _ (ne-eqb c 4 n₄)) ∙ ap refused (sym k))
+      ∙ pick-false _ _ (ne-eqb c 3 n₃) ∙ pick-false _ _ (ne-eqb c 4 n₄) ∙ pick-false _ _ (ne-eqb c 5 n₅)) ∙ ap refused (sym k))
 
 -- the whole call
 pub call-framed : {s : List ℕ} {r : Call} (c e : ℕ) → number s 0 ≡ got c e → Framed s (behind c s e) r → Framed s (asked s 0) r
@@ -213,6 +240,7 @@ same s (Rent t e) (Rent u f) q h k = cc
 same s (Rent t e) (Settings f g) q h k = cc
 same s (Rent t e) (Request m f g) q h k = cc
 same s (Rent t e) (Return u f) q h k = cc
+same s (Rent t e) (Why b d f g) q h k = cc
 same s (Rent t e) (Refused x) q h k = cc
 same s (Settings c e) (Rent u f) q h k = cc
 same s (Settings c e) (Settings f g) q h k =
@@ -223,6 +251,7 @@ same s (Settings c e) (Settings f g) q h k =
     cc
 same s (Settings c e) (Request m f g) q h k = cc
 same s (Settings c e) (Return u f) q h k = cc
+same s (Settings c e) (Why b d f g) q h k = cc
 same s (Settings c e) (Refused x) q h k = cc
 same s (Request r c e) (Rent u f) q h k = cc
 same s (Request r c e) (Settings f g) q h k = cc
@@ -234,16 +263,32 @@ same s (Request r c e) (Request m f g) q h k =
     let j : c ≡ f = part-from s c f e (h .0) (rw n (k .0)) l in
     cc
 same s (Request r c e) (Return u f) q h k = cc
+same s (Request r c e) (Why b d f g) q h k = cc
 same s (Request r c e) (Refused x) q h k = cc
 same s (Return t e) (Rent u f) q h k = cc
 same s (Return t e) (Settings f g) q h k = cc
 same s (Return t e) (Request m f g) q h k = cc
 same s (Return t e) (Return u f) q h k = cc
+same s (Return t e) (Why b d f g) q h k = cc
 same s (Return t e) (Refused x) q h k = cc
+same s (Why a b c e) (Rent u f) q h k = cc
+same s (Why a b c e) (Settings f g) q h k = cc
+same s (Why a b c e) (Request m f g) q h k = cc
+same s (Why a b c e) (Return u f) q h k = cc
+same s (Why a b c e) (Why i d f g) q h k =
+    let u : a ≡ i = cc in
+    let v : b ≡ d = cc in
+    let n : e ≡ g = cc in
+    let p : part s c e ≡ part s f g = cc in
+    let l : part s c e ≡ part s f e = p ∙ ap (part s f) (sym n) in
+    let j : c ≡ f = part-from s c f e h (rw n k) l in
+    cc
+same s (Why a b c e) (Refused x) q h k = cc
 same s (Refused x) (Rent u f) q h k = cc
 same s (Refused x) (Settings f g) q h k = cc
 same s (Refused x) (Request m f g) q h k = cc
 same s (Refused x) (Return u f) q h k = cc
+same s (Refused x) (Why b d f g) q h k = cc
 same s (Refused x) (Refused y) q h k = let n : noteOf x ≡ noteOf y = cc in ap Refused (note-injective x y n)
 
 pub call-unique : (s : List ℕ) (o : Out Asked) (a b : Call) → Framed s o a → Framed s o b → a ≡ b

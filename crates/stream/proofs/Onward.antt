@@ -13,7 +13,7 @@ use Rattle.number.specs.Decode.{Decoded, value, decode, more, under, refused as
 use Rattle.field.specs.Field.{taken, number, between, inside}
 use Rattle.field.specs.Sheet.{Note, Out, got, refused, Parser, andThen, _>>=_, _>>_, pure, here, require}
 use Rattle.stream.specs.Frame.{bytes, sheet}
-use Rattle.stream.specs.Call.{roomMost, Asked, rents, returns, ofTenancy, ofSettings, ofRequest, none, behind, asked}
+use Rattle.stream.specs.Call.{roomMost, Asked, rents, returns, ofTenancy, ofSettings, ofRequest, ofWhy, none, behind, asked}
 
 unfoldable pub Past : {A : Type 0} → ℕ → Out A → Type 0
 Past at (got a e) = at ≤ e
@@ -108,6 +108,10 @@ onward-tenancy : (ask : ℕ → Asked) → Onward (ofTenancy ask)
 unfolding ofTenancy
 onward-tenancy ask = onward-bind onward-number (λ t. onward-pure (ask t))
 
+onward-why : Onward ofWhy
+unfolding ofWhy
+onward-why = onward-bind onward-number (λ b. onward-bind onward-number (λ d. onward-bind onward-sheet (λ s. onward-pure _)))
+
 onward-behind : (c : ℕ) → Onward (behind c)
 unfolding behind ofSettings ofRequest
 onward-behind c =
@@ -115,7 +119,8 @@ onward-behind c =
     pick-elim Onward (eqb c 2) _ _ (λ _. onward-bind onward-sheet (λ s. onward-pure _)) λ _.
     pick-elim Onward (eqb c 3) _ _
     (λ _. onward-bind (onward-inside 0 roomMost 6) (λ room. onward-bind onward-sheet (λ s. onward-pure _))) λ _.
-    pick-elim Onward (eqb c 4) _ _ (λ _. onward-tenancy returns) λ _. onward-none
+    pick-elim Onward (eqb c 4) _ _ (λ _. onward-tenancy returns) λ _.
+    pick-elim Onward (eqb c 5) _ _ (λ _. onward-why) λ _. onward-none
 
 pub asked-past : (s : List ℕ) → Past 1 (asked s 0)
 unfolding asked _>>=_

@@ -19,7 +19,8 @@ use Rattle.field.specs.Field.{taken, number, between, inside}
 use Rattle.field.specs.Sheet.{Note, Out, got, refused, Parser, andThen, _>>=_, _>>_, pure, here, require}
 use Rattle.field.proofs.Values.{between-range}
 use Rattle.stream.specs.Frame.{bytes, sheet}
-use Rattle.stream.specs.Call.{roomMost, callMost, Asked, rents, returns, ofTenancy, ofSettings, ofRequest, none, behind, asked}
+use Rattle.stream.specs.Call.{roomMost, callMost, Asked, rents, returns, ofTenancy, ofSettings, ofRequest, ofWhy, none}
+use Rattle.stream.specs.Call.{behind, asked}
 
 -- ---- one number
 
@@ -159,6 +160,17 @@ request-far s at l =
     (far-on (length s) at e (2 + requestMost) (2 + requestMost) (4 + requestMost) (4 + requestMost) (sheet s e) (sheet-far s e i)
     (omega arith) (omega arith)) (omega arith) λ x f r m o. (m, o)
 
+why-far : (s : List ℕ) (at : ℕ) → at ≤ length s → Far (length s) at (12 + requestMost) (12 + requestMost) (ofWhy s at)
+unfolding ofWhy _>>=_ pure Far
+why-far s at l =
+    let m : ℕ = 12 + requestMost in
+    far-then (length s) at 5 5 m m (number s at) _ (number-far s at l) (omega arith) λ b e q i j.
+    far-then (length s) at 10 10 m m (number s e) _
+    (far-on (length s) at e 5 5 10 10 (number s e) (number-far s e i) (omega arith) (omega arith)) (omega arith) λ d f r u v.
+    far-then (length s) at m m m m (sheet s f) _
+    (far-on (length s) at f (2 + requestMost) (2 + requestMost) m m (sheet s f) (sheet-far s f u) (omega arith) (omega arith))
+    (omega arith) λ x g t y z. (y, z)
+
 none-far : (n at k w : ℕ) (s : List ℕ) (e : ℕ) → Far n at k w (none s e)
 unfolding none Far
 none-far n at k w s e = λ x. absurd (omega arith)
@@ -168,7 +180,7 @@ abbrev Ends : List ℕ → ℕ → Parser Asked → Type 0
 Ends s e p = Far (length s) 0 callMost callMost (p s e)
 
 module _ (s : List ℕ) (c e : ℕ) (q : number s 0 ≡ got c e) (i : e ≤ length s) (j : e ≤ 5) where
-  -- each of the four numbers is one byte
+  -- each of the five numbers is one byte
   one : (k : ℕ) → k < 128 → eqb c k ≡ true → e ≤ 1
   one k l t = number-narrow s 0 c e q .0 (omega (arith, eqb-true c k t))
 
@@ -184,6 +196,8 @@ module _ (s : List ℕ) (c e : ℕ) (q : number s 0 ≡ got c e) (i : e ≤ leng
       pick-elim (Ends s e) (eqb c 3) _ _
       (λ t. shorter ofRequest (4 + requestMost) (request-far s e i) (omega (arith, one 3 (omega arith) t))) λ _.
       pick-elim (Ends s e) (eqb c 4) _ _ (λ _. shorter (ofTenancy returns) 5 (tenancy-far returns s e i) (omega arith)) λ _.
+      pick-elim (Ends s e) (eqb c 5) _ _
+      (λ t. shorter ofWhy (12 + requestMost) (why-far s e i) (omega (arith, one 5 (omega arith) t))) λ _.
       none-far (length s) 0 callMost callMost s e
 
 asked-far : (s : List ℕ) → Ends s 0 asked

@@ -23,7 +23,7 @@ use Rattle.number.proofs.Decode.{decode-within}
 use Rattle.field.specs.Field.{taken, number, between, inside}
 use Rattle.field.specs.Sheet.{Note, note, Out, got, refused, Parser, andThen, _>>=_, _>>_, pure, here, require}
 use Rattle.stream.specs.Frame.{bytes, sheet}
-use Rattle.stream.specs.Call.{roomMost, Asked, rents, returns, ofTenancy, ofSettings, ofRequest, none, behind, asked}
+use Rattle.stream.specs.Call.{roomMost, Asked, rents, returns, ofTenancy, ofSettings, ofRequest, ofWhy, none, behind, asked}
 
 -- ---- one number
 
@@ -199,13 +199,18 @@ steady-request : Steady ofRequest
 unfolding ofRequest
 steady-request = steady-bind (steady-inside 0 roomMost 6) (λ room. steady-bind steady-sheet (λ s. steady-pure _))
 
+steady-why : Steady ofWhy
+unfolding ofWhy
+steady-why = steady-bind number-steady (λ b. steady-bind number-steady (λ d. steady-bind steady-sheet (λ s. steady-pure _)))
+
 steady-behind : (c : ℕ) → Steady (behind c)
 unfolding behind
 steady-behind c =
     pick-elim Steady (eqb c 1) _ _ (λ _. steady-tenancy rents) λ _.
     pick-elim Steady (eqb c 2) _ _ (λ _. steady-settings) λ _.
     pick-elim Steady (eqb c 3) _ _ (λ _. steady-request) λ _.
-    pick-elim Steady (eqb c 4) _ _ (λ _. steady-tenancy returns) λ _. steady-none
+    pick-elim Steady (eqb c 4) _ _ (λ _. steady-tenancy returns) λ _.
+    pick-elim Steady (eqb c 5) _ _ (λ _. steady-why) λ _. steady-none
 
 pub asked-steady : Steady asked
 unfolding asked

@@ -3,7 +3,7 @@ use basics::REQUEST_MOST;
 use field::Fault;
 use field::Field;
 use field::Refusal;
-ghost use Rattle.stream.specs.Call.{asked, behind, rents, returns, ofTenancy, ofSettings, ofRequest, Framed};
+ghost use Rattle.stream.specs.Call.{asked, behind, rents, returns, ofTenancy, ofSettings, ofRequest, ofWhy, Framed};
 ghost use Rattle.stream.specs.Frame.{Spans};
 ghost use Rattle.stream.specs.Frame.{sheet as framedSheet};
 
@@ -22,6 +22,7 @@ pub enum Call {
     Settings(usize, usize),
     Request(usize, usize, usize),
     Return(u32, usize),
+    Why(u32, u32, usize, usize),
     Refused(Fault),
 }
 
@@ -87,6 +88,22 @@ fn give_back(s: &[u8], at: usize) -> Call
     }
 }
 
+// The block and the disk of a question, and its sheet.
+fn why(s: &[u8], at: usize) -> Call
+    ensures { λ r. ⌜ Framed (now (s .entry)) (ofWhy (now (s .entry)) at) r ⌝ }
+{
+    match field::number(s, at) {
+        Field::Got(block, second) => match field::number(s, second) {
+            Field::Got(disk, next) => match sheet(s, next) {
+                Span::Part(from, to) => Call::Why(block, disk, from, to),
+                Span::Refused(e) => Call::Refused(e),
+            },
+            Field::Refused(e) => Call::Refused(e),
+        },
+        Field::Refused(e) => Call::Refused(e),
+    }
+}
+
 // What follows the call's number.
 fn follow(s: &[u8], call: u32, at: usize) -> Call
     ensures { λ r. ⌜ Framed (now (s .entry)) (behind call (now (s .entry)) at) r ⌝ }
@@ -102,6 +119,9 @@ fn follow(s: &[u8], call: u32, at: usize) -> Call
     }
     if call == 4 {
         return give_back(s, at);
+    }
+    if call == 5 {
+        return why(s, at);
     }
     Call::Refused(Fault {
         refusal: Refusal::WrongKind,

@@ -1,4 +1,5 @@
 -- Laws of the answer to a read request.
+--     spelled-for           what the planner spelled for the tenancy that was found
 --     replied               what the planner answered for the tenancy that was found
 --     replied-as, replied-within     an answer that is known; a sheet lies within the buffer
 --     replied-enough        a buffer of the length that 11 told is enough
@@ -25,6 +26,8 @@ use Rattle.plan.specs.Plan.{Plan, planSheet}
 use Rattle.plan.specs.Receive.{Received}
 use Rattle.planner.specs.Answered.{Answered, handed}
 use Rattle.planner.specs.Asked.{asked, PlanFor}
+use Rattle.planner.specs.Lists.{Asks}
+use Rattle.planner.specs.declared.Spelling.{Spelling}
 use Rattle.planner.proofs.Answers.{answered-sheet}
 use Rattle.planner.proofs.Enough.{answered-enough}
 use Rattle.planner.proofs.ReadBack.{answered-read, answered-greatest, answered-received}
@@ -33,6 +36,10 @@ use Rattle.unit.specs.declared.Unit.{Unit}
 use Rattle.unit.specs.Request.{askedOf, Replied}
 use Rattle.unit.specs.Sound.{Sound}
 use Rattle.unit.specs.Unit.{tenancyOf}
+
+pub spelled-for : (u : Unit) (s : List ℕ) {n t : ℕ} {r : Spelling} → t ≡ tenancyOf u → Asks (asked (u .number) t (u .table) s) n r
+    → Asks (askedOf u s) n r
+spelled-for u s {n} {r = r} e a = subst (λ (k : ℕ). Asks (asked (u .number) k (u .table) s) n r) e a
 
 module _ {u : Unit} {s out after : List ℕ} where
   pub replied : {t : ℕ} {w : Written} → t ≡ tenancyOf u → Answered (u .number) t (asked (u .number) t (u .table) s) out w after

@@ -6,12 +6,14 @@ use Rattle.field.specs.Refusal.{noteOf}
 use Rattle.field.specs.declared.Verdict.{Verdict}
 use Rattle.field.specs.declared.Verdict.the-variants.{Accepted, Refused}
 use Rattle.field.proofs.Unique.{note-injective}
-use Rattle.planner.proofs.Unique.{plan-into-unique}
+use Rattle.planner.specs.Lists.{Asks}
+use Rattle.planner.specs.declared.Spelling.{Spelling}
+use Rattle.planner.proofs.Unique.{plan-into-unique, ask-unique as spelling-unique}
 use Rattle.unit.specs.declared.Done.{Done}
 use Rattle.unit.specs.declared.Requested.{Requested}
 use Rattle.unit.specs.declared.Unit.{Unit as Shelf}
 use Rattle.unit.specs.Life.{Outcome}
-use Rattle.unit.specs.Request.{Replied}
+use Rattle.unit.specs.Request.{askedOf, Replied}
 use Rattle.unit.specs.Told.{toldVerdict, told}
 use Rattle.unit.specs.Unit.{newUnit, tenancyOf}
 
@@ -39,6 +41,10 @@ request-unique {a = a} {b = b} p q =
           ∙ ap {B = Requested} (λ z. record { answer = b .answer; unit = z }) (p .same ∙ sym (q .same)),
       r .1,
     )
+
+-- `ask`: the answer and all lists
+pub ask-unique : (u : Shelf) (s : List ℕ) {n : ℕ} {a b : Spelling} → Asks (askedOf u s) n a → Asks (askedOf u s) n b → a ≡ b
+ask-unique u s p q = spelling-unique p q
 
 -- `new`, `number` and `tenancy` are the value
 pub new-unique : (n : ℕ) {a b : Shelf} → a ≡ newUnit n → b ≡ newUnit n → a ≡ b

@@ -3,10 +3,13 @@ use field::Fault;
 use field::Refusal;
 use field::Verdict;
 use field::Written;
+use planner::Spelling;
 use settings::Table;
 ghost use mathlib.Core.Path.{_≡_};
+ghost use lib.ListN.{length};
+ghost use Rattle.planner.specs.Lists.{Asks};
 ghost use Rattle.unit.specs.Life.{rent, set, giveBack};
-ghost use Rattle.unit.specs.Request.{Replied};
+ghost use Rattle.unit.specs.Request.{askedOf, Replied};
 ghost use Rattle.unit.specs.Sound.{Sound};
 ghost use Rattle.unit.specs.Told.{told};
 ghost use Rattle.unit.specs.Unit.{newUnit, tenancyOf, withTable};
@@ -141,6 +144,17 @@ impl Unit {
             }),
             unit: self,
         }
+    }
+
+    // The case that the unit and a request sheet spell, as lists.
+    pub fn ask(self, sheet: &[u8]) -> Spelling
+        requires { ⌜ Sound self ⌝ }
+        ensures { λ r. ⌜ Asks (askedOf self (now (sheet .entry))) (length (now (sheet .entry))) r ⌝ }
+    {
+        let number = self.number;
+        let table = self.table;
+        let tenancy = self.tenancy();
+        planner::ask(number, tenancy, table, sheet)
     }
 
     // Answers a read request with the sheet of its plan, at the start of a lent buffer.

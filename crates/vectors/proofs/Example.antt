@@ -1,21 +1,32 @@
 -- Document 01's example from end to end: its settings and its request give its plan, the figure P6.
-use Prim.Native.Nat.{ℕ, zero, suc, _+_}
+use Prim.Native.Nat.{ℕ, zero, suc, _+_, _≤_, _<_}
 use mathlib.Core.Bool.{Bool, true, false}
 use mathlib.Core.List.{List, [], _∷_, _++_}
 use mathlib.Core.Path.{_≡_, refl, ap₂, fun-ext, subst}
 use native.Mathlib.Omega.{arith}
+use borrow.Author.Tests.{eqb-true, eq-eqb}
+use lib.Dec.{eqb}
 use lib.ListN.{getD, replicate}
-use Rattle.model.specs.Case.{Case, base}
+use Rattle.model.specs.Assignment.{reads, Valid}
+use Rattle.model.specs.Capacity.{endTime}
+use Rattle.model.specs.Case.{Case, base, Schedule, endOf, response, HasTime}
 use Rattle.model.specs.Figures.{asked}
 use Rattle.model.specs.Plan.{Optimal}
+use Rattle.model.specs.Time.{LeastTime}
 use Rattle.field.specs.declared.Written.the-variants.{Length}
+use Rattle.basics.specs.Choice.{pick}
+use Rattle.basics.specs.Count.{bit, sum, count, latest}
 use Rattle.basics.specs.Lists.{All, Rises, listed}
-use Rattle.field.specs.Sheet.{note, got, refused}
+use Rattle.basics.proofs.Count.{count-here, latest-term}
+use Rattle.field.specs.Sheet.{note, unplaced, got, refused}
 use Rattle.settings.specs.Table.{table, diskRows, costs}
 use Rattle.planner.specs.Asked.{startOf, tableCase, PlanFor}
 use Rattle.unit.specs.Request.{Replied}
 use Rattle.console.specs.Bench.{benchInput, Line}
-use Rattle.hire.specs.Calls.{planned}
+use Rattle.reason.specs.declared.Reason.{Reason}
+use Rattle.reason.specs.declared.Reason.the-variants.{NoCopy, Later, Chosen}
+use Rattle.reason.specs.Reason.{forced, Could, Why, Reasons}
+use Rattle.hire.specs.Calls.{planned, explained}
 use Rattle.line.specs.Text.{ascii}
 use Rattle.service.specs.declared.Next.the-variants.{Served}
 use Rattle.service.specs.Shelf.{due, shelfOf, Comes}
@@ -101,3 +112,86 @@ serve-no-room = (
     refl,
   ),
 )
+
+-- a reason of document 01's plan
+because : (b d : ℕ) (r : Reason) → Why (tableCase (table 3 three) copies) 9 (λ i. getD (0 ∷ 0 ∷ 1 ∷ 1 ∷ []) i 0) b d r
+    → Reasons (tableCase (table 3 three) copies) b d r
+because b d r h = record { time = 9; schedule = _; set = _; plan = plan-example .optimal; why = h }
+
+-- why block 0 is read from disk 0: it is the one chosen
+serve-chosen : Comes (shelfOf ready) (bytes "05 00 00 11" ++ request) false (due true (bytes "05 00 00 11" ++ request) 0) Served 21
+    (ascii "reason 5 0\n") (shelfOf ready)
+unfolding program-opened tableCase diskRows costs Why
+serve-chosen =
+    (refl, refl, (explained (got Chosen 0), ready, (got Chosen 0, (Chosen, because 0 0 Chosen refl, refl), refl, refl), refl, refl))
+
+-- and not from disk 2: it holds no copy
+serve-no-copy : Comes (shelfOf ready) (bytes "05 00 02 11" ++ request) false (due true (bytes "05 00 02 11" ++ request) 0) Served 21
+    (ascii "reason 1 0\n") (shelfOf ready)
+unfolding program-opened tableCase diskRows costs Why
+serve-no-copy =
+    (refl, refl, (explained (got NoCopy 0), ready, (got NoCopy 0, (NoCopy, because 0 2 NoCopy refl, refl), refl, refl), refl, refl))
+
+-- disk 2, of cost 10, is in with a block after 10 at the soonest
+ten : (n : ℕ) → 0 < n → 10 ≤ endTime 0 10 n
+unfolding endTime
+ten zero h = absurd (omega arith)
+ten (suc n) h = omega arith
+
+on-two : (a : ℕ → ℕ) → a 3 ≡ 2 → 10 ≤ response (asked copies-p6) a
+unfolding asked base endOf response reads
+on-two a q =
+    omega (
+      arith,
+      latest-term 3 (endOf (asked copies-p6) a) 2 (omega arith),
+      ten (reads 4 a 2) (count-here 4 (λ b. eqb (a b) 2) 3 (omega arith) (eq-eqb (a 3) 2 q)),
+    )
+
+-- block 3 read there, and the others as in the plan
+abbrev there : ℕ → ℕ
+there b = getD (0 ∷ 0 ∷ 1 ∷ 2 ∷ []) b 0
+
+there-reads : Schedule (forced (asked copies-p6) 3 2) there
+unfolding Schedule Valid forced asked base listed pick
+there-reads zero h = (omega arith, refl)
+there-reads (suc zero) h = (omega arith, refl)
+there-reads (suc (suc zero)) h = (omega arith, refl)
+there-reads (suc (suc (suc zero))) h = (omega arith, refl)
+there-reads (suc (suc (suc (suc b)))) h = absurd (omega arith)
+
+there-ends : response (forced (asked copies-p6) 3 2) there ≡ 10
+unfolding forced asked base endOf response reads endTime count sum bit latest
+there-ends = refl
+
+forced-least : LeastTime (forced (asked copies-p6) 3 2) 10
+unfolding Schedule Valid forced asked base pick response endOf
+forced-least =
+    record {
+      lower = λ a h. on-two a (eqb-true (a 3) 2 (h 3 (omega arith) .1));
+      reached = (there, there-reads, there-ends);
+    }
+
+not-in-nine : Could (asked copies-p6) 9 3 2 → ⊥
+unfolding Could HasTime
+not-in-nine x = omega (arith, on-two (x .0) (x .2), x .1 .1)
+
+-- block 3 is not read from disk 2: it holds a copy, but no schedule of time 9 does so; the least time if it were read there is 10
+serve-later : Comes (shelfOf ready) (bytes "05 03 02 11" ++ request) false (due true (bytes "05 03 02 11" ++ request) 0) Served 21
+    (ascii "reason 2 10\n") (shelfOf ready)
+unfolding program-opened tableCase diskRows costs Why asked base listed
+serve-later =
+    let w : Why (tableCase (table 3 three) copies) 9 (λ i. getD (0 ∷ 0 ∷ 1 ∷ 1 ∷ []) i 0) 3 2 (Later 10) =
+    subst (λ (m : Case). Why m 9 (λ i. getD (0 ∷ 0 ∷ 1 ∷ 1 ∷ []) i 0) 3 2 (Later 10)) same-case (refl, not-in-nine, forced-least) in
+    let r : Reasons (tableCase (table 3 three) copies) 3 2 (Later 10) = because 3 2 (Later 10) w in
+    (refl, refl, (explained (got (Later 10) 0), ready, (got (Later 10) 0, (Later 10, r, refl), refl, refl), refl, refl))
+
+-- there is no block 4, and no disk 3
+serve-no-block : Comes (shelfOf ready) (bytes "05 04 00 11" ++ request) false (due true (bytes "05 04 00 11" ++ request) 0) Served 21
+    (ascii "refused 16 0\n") (shelfOf ready)
+unfolding program-opened tableCase diskRows costs
+serve-no-block = (refl, refl, (explained (refused (unplaced 16)), ready, (refused (unplaced 16), refl, refl, refl), refl, refl))
+
+serve-no-disk : Comes (shelfOf ready) (bytes "05 00 03 11" ++ request) false (due true (bytes "05 00 03 11" ++ request) 0) Served 21
+    (ascii "refused 16 0\n") (shelfOf ready)
+unfolding program-opened tableCase diskRows costs
+serve-no-disk = (refl, refl, (explained (refused (unplaced 16)), ready, (refused (unplaced 16), refl, refl, refl), refl, refl))

@@ -1,7 +1,7 @@
 -- The lines that the programs print.
 use mathlib.Core.Path.{_≡_, refl}
 use mathlib.Core.List.{[]}
-use Rattle.line.specs.declared.Word.the-variants.{Refused, RefusedAt}
+use Rattle.line.specs.declared.Word.the-variants.{Refused, RefusedAt, Reason}
 use Rattle.line.specs.Line.{spoken, planLine, sheetLine}
 use Rattle.line.specs.Text.{ascii}
 use Rattle.vectors.proofs.Opened.{line-opened}
@@ -19,6 +19,11 @@ refused-6 = refl
 refused-16-11 : spoken (RefusedAt 16 11) ≡ ascii "refused 16 11\n"
 unfolding line-opened
 refused-16-11 = refl
+
+-- the second reason and its time
+reason-2-12 : spoken (Reason 2 12) ≡ ascii "reason 2 12\n"
+unfolding line-opened
+reason-2-12 = refl
 
 -- ---- plan_line
 

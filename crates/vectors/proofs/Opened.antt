@@ -31,11 +31,13 @@ use Rattle.desk.specs.Desk.{settingsDraftOfBytes, requestDraftOfBytes, planIfRo
 use Rattle.lent.specs.Numbers.{valueOf, bytesOf, firstNumbers, numbers, broken}
 use Rattle.lent.specs.Packed.{packPlan, packRefused, writerAnswer, readerAnswer}
 use Rattle.line.specs.Text.{digit, digitsBy, decimal, spaced, pair, hex}
-use Rattle.line.specs.Line.{feed, word-returned, word-refused, word-stopped, word-plan, bar, spoken, planText, planLine, sheetLine}
+use Rattle.line.specs.Line.{feed, word-returned, word-refused, word-stopped, word-reason, word-plan, bar, spoken}
+use Rattle.line.specs.Line.{planText, planLine, sheetLine}
 use Rattle.stream.specs.Frame.{sheet, bytes as framed}
-use Rattle.stream.specs.Call.{ofTenancy, ofSettings, ofRequest, none, behind, asked}
+use Rattle.stream.specs.Call.{ofTenancy, ofSettings, ofRequest, ofWhy, none, behind, asked}
 use Rattle.console.specs.Bench.{judge, accept, close, hire, benchInput, answerLine as benchLine, Line, apply as applyInput}
 use Rattle.hire.specs.Calls.{Comes as Came, sent, Does}
+use Rattle.why.specs.Why.{within, Explains}
 use Rattle.service.specs.Shelf.{due, shelfOf, callOf, acceptedLine, lineOf, Serves, lastLine, waits, Comes}
 use Rattle.vectors.specs.Text.{bytes, digit as hexDigit}
 
@@ -81,16 +83,16 @@ desk-opened = Unit
 
 unfoldable pub line-opened : Type 0
 unfolding
-    plan-opened digit digitsBy decimal spaced pair hex feed word-returned word-refused word-stopped
+    plan-opened digit digitsBy decimal spaced pair hex feed word-returned word-refused word-stopped word-reason
     word-plan bar spoken planText planLine sheetLine
 line-opened = Unit
 
 unfoldable pub stream-opened : Type 0
-unfolding field-opened framed sheet ofTenancy ofSettings ofRequest none behind asked
+unfolding field-opened framed sheet ofTenancy ofSettings ofRequest ofWhy none behind asked
 stream-opened = Unit
 
 unfoldable pub program-opened : Type 0
 unfolding
     unit-opened line-opened stream-opened judge accept close hire applyInput benchInput benchLine Line
-    Came sent Does due shelfOf callOf acceptedLine lineOf Serves lastLine waits Comes
+    within Explains Came sent Does due shelfOf callOf acceptedLine lineOf Serves lastLine waits Comes
 program-opened = Unit

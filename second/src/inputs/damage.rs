@@ -59,7 +59,7 @@ pub const FAULTS: [Fault; 21] = [
 fn highest(role: Role) -> u32 {
     match role {
         Role::Kind => 3,
-        Role::Unit | Role::Tenancy => u32::MAX,
+        Role::Unit | Role::Tenancy | Role::AnyNumber => u32::MAX,
         Role::DiskCount => MOST_DISKS,
         Role::Cost => MOST_COST,
         Role::Load => MOST_LOAD,

@@ -21,6 +21,7 @@ pub enum Role {
     Block,
     Length,
     Room,
+    AnyNumber,
 }
 
 #[derive(Clone, Debug)]

@@ -177,65 +177,115 @@ fn refused(line: &str) -> Option<(u32, usize)> {
     Some((number, words.next()?.parse().ok()?))
 }
 
-/// The calls of a stream as far as they are whole: the kind, and the sheet of 2 and 3.
-fn calls(stream: &[u8]) -> Vec<(u32, Vec<u8>)> {
-    fn call(reader: &mut Reader) -> Option<(u32, Vec<u8>)> {
+/// A whole call: its kind, the numbers before its sheet, and the sheet.
+struct Call {
+    kind: u32,
+    numbers: Vec<u32>,
+    sheet: Vec<u8>,
+}
+
+/// The calls of a stream as far as they are whole.
+fn calls(stream: &[u8]) -> Vec<Call> {
+    fn call(reader: &mut Reader) -> Option<Call> {
         let kind = reader.number().ok()?;
-        if kind != 2 {
-            reader.number().ok()?;
+        let count = match kind {
+            2 => 0,
+            5 => 2,
+            _ => 1,
+        };
+        let numbers = (0..count)
+            .map(|_| reader.number().ok())
+            .collect::<Option<_>>()?;
+        let mut sheet = Vec::new();
+        if kind != 1 && kind != 4 {
+            let length = reader.number().ok()?;
+            sheet = reader.take(length as usize).ok()?.to_vec();
         }
-        if kind == 1 || kind == 4 {
-            return Some((kind, Vec::new()));
-        }
-        let length = reader.number().ok()?;
-        Some((kind, reader.take(length as usize).ok()?.to_vec()))
+        Some(Call {
+            kind,
+            numbers,
+            sheet,
+        })
     }
     let mut reader = Reader::new(stream);
     let _ = reader.number();
     std::iter::from_fn(|| call(&mut reader)).collect()
 }
 
-/// What the streams reach, settings and requests apart.
-fn reached(streams: impl Iterator<Item = Vec<u8>>) -> (Names, Names) {
-    let (mut settings, mut requests) = (Names::new(), Names::new());
+/// What a refused call is about.
+fn about(call: &Call, refusal: u32, place: usize) -> String {
+    match (call.kind, refusal, place) {
+        (1 | 4, _, 0) => "tenancy".to_string(),
+        (2, _, _) => field(&call.sheet, Walk::settings, refusal, place),
+        (5, 16, 0) => {
+            let mut walk = Walk::new(&call.sheet);
+            walk.request();
+            let blocks = walk.fields.iter().filter(|(name, _)| *name == "k").count();
+            let out = call.numbers[0] as usize >= blocks;
+            if out {
+                "block asked for"
+            } else {
+                "disk asked for"
+            }
+            .to_string()
+        }
+        (3 | 5, _, _) => field(&call.sheet, Walk::request, refusal, place),
+        _ => panic!("refused {refusal} {place} to call {}", call.kind),
+    }
+}
+
+/// What the streams reach, by the kind of call.
+fn reached(streams: impl Iterator<Item = Vec<u8>>) -> BTreeMap<u32, Names> {
+    let mut names: BTreeMap<u32, Names> = BTreeMap::new();
     for stream in streams {
         let text = String::from_utf8(shelf::lines(&stream)).unwrap();
-        for ((kind, sheet), line) in calls(&stream).iter().zip(text.lines()) {
-            let Some((refusal, place)) = refused(line) else {
-                continue;
-            };
-            match kind {
-                2 => settings.insert((refusal, field(sheet, Walk::settings, refusal, place))),
-                3 => requests.insert((refusal, field(sheet, Walk::request, refusal, place))),
-                _ => {
-                    assert_eq!(place, 0);
-                    true
-                }
-            };
+        for (call, line) in calls(&stream).iter().zip(text.lines()) {
+            if let Some((refusal, place)) = refused(line) {
+                let of_call = names.entry(call.kind).or_default();
+                of_call.insert((refusal, about(call, refusal, place)));
+            }
         }
     }
-    (settings, requests)
+    names
+}
+
+/// What each call can be refused with.
+fn call_names() -> BTreeMap<u32, Names> {
+    let plain = |refusals: &[u32]| -> Names {
+        let named = refusals
+            .iter()
+            .map(|&refusal| (refusal, "tenancy".to_string()));
+        named.collect()
+    };
+    let mut reason = request_names();
+    reason.remove(&(11, "room".to_string()));
+    reason.extend(["block asked for", "disk asked for"].map(|name| (16, name.to_string())));
+    BTreeMap::from([
+        (1, plain(&[12, 13])),
+        (2, settings_names()),
+        (3, request_names()),
+        (4, plain(&[14])),
+        (5, reason),
+    ])
 }
 
 #[test]
-fn the_readers_of_a_unit_are_refused_at_every_field() {
-    let (settings, requests) = reached(
-        shelf_inputs::systematic()
-            .iter()
-            .map(|stream| stream.concat()),
-    );
-    assert_eq!(settings, settings_names());
-    assert_eq!(requests, request_names());
+fn the_calls_are_refused_at_every_field() {
+    let systematic = shelf_inputs::systematic();
+    let names = reached(systematic.iter().map(|stream| stream.concat()));
+    for (kind, expected) in call_names() {
+        assert_eq!(names[&kind], expected, "call {kind}");
+    }
 }
 
 #[test]
 fn random_streams_are_refused_at_no_other_fields() {
-    let streams = (0..400).map(|index| shelf_inputs::stream(5, index).concat());
-    let (settings, requests) = reached(streams);
-    assert!(settings.is_subset(&settings_names()));
-    assert!(requests.is_subset(&request_names()));
-    assert!(settings.len() > 15, "{settings:?}");
-    assert!(requests.len() > 20, "{requests:?}");
+    let names = reached((0..400).map(|index| shelf_inputs::stream(5, index).concat()));
+    for (kind, expected) in call_names() {
+        assert!(names[&kind].is_subset(&expected), "call {kind}");
+        let most = 3 * names[&kind].len() > 2 * expected.len();
+        assert!(most, "call {kind}: {:?}", names[&kind]);
+    }
 }
 
 /// What is answered to the lines of one word, with the line's other words.
@@ -245,6 +295,29 @@ fn answers(word: &str) -> Vec<(Vec<String>, String)> {
         (words[0] == word).then(|| (words, desk::answer(&line)))
     });
     of_word.collect()
+}
+
+#[test]
+fn requests_have_rooms_about_the_lengths_of_their_plans() {
+    let mut found = BTreeSet::new();
+    for stream in shelf_inputs::systematic() {
+        let text = String::from_utf8(shelf::lines(&stream.concat())).unwrap();
+        for (call, line) in stream[1..].iter().zip(text.lines()) {
+            let mut reader = Reader::new(call);
+            let (Ok(3), Ok(room)) = (reader.number(), reader.number()) else {
+                continue;
+            };
+            let room = room as usize;
+            match (refused(line), line.strip_prefix("plan ")) {
+                (Some((11, _)), _) if room == 0 => found.insert("none"),
+                (Some((11, needed)), _) if needed == room + 1 => found.insert("one too few"),
+                (_, Some(plan)) if plan.len() == 2 * room => found.insert("exact"),
+                (_, Some(plan)) if plan.len() < 2 * room => found.insert("more"),
+                _ => false,
+            };
+        }
+    }
+    assert_eq!(found.len(), 4, "{found:?}");
 }
 
 #[test]

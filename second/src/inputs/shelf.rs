@@ -3,7 +3,7 @@
 use crate::inputs::damage::{self, Fault, FAULTS};
 use crate::inputs::fields::{bytes, request, settings, with_length, Field, Role};
 use crate::inputs::whole::{self, Case};
-use crate::model::Disk;
+use crate::model::{disks_of, Disk};
 use crate::number::shortest;
 use crate::random::Random;
 use crate::shelf::MOST_ROOM;
@@ -72,14 +72,16 @@ impl Hire {
             (true, false) => match random.within(1, 12) {
                 1 => self.give_back(random),
                 2 => self.settings(random),
-                _ => self.request(random),
+                3..=7 => self.request(random),
+                _ => self.reason(random),
             },
-            (_, true) => match random.within(1, 6) {
+            (_, true) => match random.within(1, 7) {
                 1 => self.rent(random),
                 2 => self.give_back(random),
                 3 => self.settings(random),
                 4 => self.request(random),
-                5 => self.old_settings(random),
+                5 => self.reason(random),
+                6 => self.old_settings(random),
                 _ => self.old_request(random),
             },
         }
@@ -136,17 +138,54 @@ impl Hire {
         call
     }
 
-    /// A request for the table last sent, or for another, which may be wider.
     fn request(&mut self, random: &mut Random) -> Vec<u8> {
-        let copies = match random.within(1, 8) {
-            1 => self.case.copies.clone(),
-            2 => whole::any(random).copies,
-            _ => fitting_copies(random, self.unit.disks().max(1)),
-        };
+        let copies = self.copies(random);
         let mut fields = request(self.number, self.last, &copies);
         maybe_damage(random, &mut fields);
         let sheet = bytes(&fields);
         self.send_request(random, sheet)
+    }
+
+    /// Blocks for the table last sent, or for another, which may be wider.
+    fn copies(&self, random: &mut Random) -> Vec<u64> {
+        match random.within(1, 8) {
+            1 => self.case.copies.clone(),
+            2 => whole::any(random).copies,
+            _ => fitting_copies(random, self.unit.disks().max(1)),
+        }
+    }
+
+    /// A block and one of its disks, another disk, or numbers out of range; the request may be damaged or an old one.
+    fn reason(&mut self, random: &mut Random) -> Vec<u8> {
+        let copies = self.copies(random);
+        let mut fields = request(self.number, self.last, &copies);
+        maybe_damage(random, &mut fields);
+        let mut sheet = bytes(&fields);
+        if !self.requests_sent.is_empty() && random.once_in(8) {
+            sheet = random.pick(&self.requests_sent).clone();
+        }
+        let count = copies.len() as u32;
+        let block = match random.within(1, 12) {
+            1 => count,
+            2 => random.number(),
+            _ => random.within(0, count.max(1) - 1),
+        };
+        let held = disks_of(copies.get(block as usize).copied().unwrap_or(1));
+        let disk = match random.within(1, 12) {
+            1 => self.unit.disks(),
+            2 => random.number(),
+            3 => random.within(0, 63),
+            4 => random.within(0, self.unit.disks().max(1) - 1),
+            _ => *random.pick(&held) as u32,
+        };
+        [
+            shortest(5),
+            shortest(block),
+            shortest(disk),
+            shortest(sheet.len() as u32),
+            sheet,
+        ]
+        .concat()
     }
 
     fn old_request(&mut self, random: &mut Random) -> Vec<u8> {
@@ -184,7 +223,7 @@ impl Hire {
     /// A call with which the stream itself is damaged, most likely.
     fn damaged_call(&mut self, random: &mut Random) -> Vec<u8> {
         let sheet = request(self.number, self.last, &self.case.copies);
-        let kind = *random.pick(&[1, 2, 2, 2, 3, 3, 3, 3, 4, 0, 5]);
+        let kind = *random.pick(&[1, 2, 2, 2, 3, 3, 3, 3, 4, 5, 5, 5, 0, 6]);
         let mut fields = vec![Field::new(Role::Kind, kind)];
         match kind {
             2 => fields.extend(with_length(&sheet)),
@@ -192,13 +231,18 @@ impl Hire {
                 fields.push(Field::new(Role::Room, random.within(0, MOST_ROOM)));
                 fields.extend(with_length(&sheet));
             }
+            5 => {
+                let numbers = [random.number(), random.number()];
+                fields.extend(numbers.map(|number| Field::new(Role::AnyNumber, number)));
+                fields.extend(with_length(&sheet));
+            }
             _ => fields.push(Field::new(Role::Tenancy, random.number())),
         }
-        let place = random.index(fields.len().min(3));
+        let place = random.index(fields.len().min(4));
         if random.once_in(3) {
             damage::put(&mut fields, place, Fault::AboveHighest);
         } else {
-            fields.truncate(random.within(1, 4) as usize);
+            fields.truncate(random.within(1, 5) as usize);
             damage::any(random, &mut fields);
         }
         bytes(&fields)
@@ -262,11 +306,15 @@ fn in_each_state() -> Vec<Stream> {
             .collect()
     };
     let rooms = |sheet: &[Field]| -> Stream {
-        let rooms = [0, 1, 14, 15, 16, 4_096].map(shortest);
-        let call = |room: &Vec<u8>| [vec![3], room.clone(), bytes(&with_length(sheet))].concat();
-        rooms.iter().map(call).collect()
+        let call = |room| [vec![3], shortest(room), bytes(&with_length(sheet))].concat();
+        (0..=20).chain([MOST_ROOM]).map(call).collect()
     };
     let nothing = request(700, 300, &[]);
+    let reasons = |sheet: &[Field]| -> Stream {
+        let pairs = (0..5).flat_map(|block| [0, 1, 2, 3, 63, 64].map(|disk| (block, disk)));
+        let call = |(block, disk)| [vec![5, block, disk], bytes(&with_length(sheet))].concat();
+        pairs.map(call).collect()
+    };
     let all = [
         calls(&[3, 99], &read),
         calls(&[3, 0], &read),
@@ -274,6 +322,11 @@ fn in_each_state() -> Vec<Stream> {
         calls(&[2], &table),
         rooms(&read),
         rooms(&nothing),
+        calls(&[5, 0, 0], &read),
+        calls(&[5, 9, 9], &read),
+        reasons(&read),
+        reasons(&request(700, 300, &[3, 3, 3, 6])),
+        reasons(&nothing),
     ]
     .concat();
     let rent = vec![[shortest(1), shortest(300)].concat()];
@@ -296,9 +349,10 @@ fn example_sheets() -> (Vec<Field>, Vec<Field>) {
     (table, request(700, 300, &[3, 3, 6]))
 }
 
-/// Rent, settings, request, return, and the old request to the next tenant.
+/// Rent, settings, request, reason, return, and the old request to the next tenant.
 fn example() -> Vec<Field> {
     let (table, read) = example_sheets();
+    let pair = [0, 1].map(|number| Field::new(Role::AnyNumber, number));
     let call = |kind| vec![Field::new(Role::Kind, kind)];
     let tenancy = |value| vec![Field::new(Role::Tenancy, value)];
     let room = vec![Field::new(Role::Room, 200)];
@@ -307,6 +361,7 @@ fn example() -> Vec<Field> {
         [call(1), tenancy(300)].concat(),
         [call(2), with_length(&table)].concat(),
         [call(3), room.clone(), with_length(&read)].concat(),
+        [call(5), pair.to_vec(), with_length(&read)].concat(),
         [call(4), tenancy(300)].concat(),
         [call(1), tenancy(301)].concat(),
         [call(3), room, with_length(&read)].concat(),

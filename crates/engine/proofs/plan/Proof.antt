@@ -8,7 +8,7 @@ use Rattle.engine.proofs.plan.Statement.{statement}
 use Rattle.engine.proofs.plan.Tie as tie
 
 load-requires : tie.Need-load-requires
-load-requires c κs = (c .before .before .before .before .before .before .pre .blocks, refl, replicate-at {A = ℕ} 0 blocksMost)
+load-requires c κs = (c .before .before .before .before .before .before .pre .spellable .blocks, refl, replicate-at {A = ℕ} 0 blocksMost)
 
 solve-requires : tie.Need-solve-requires
 solve-requires c κs =

@@ -2,7 +2,7 @@
 use borrow.Author.Needs.{needs}
 use native.Mathlib.Omega.{arith}
 use Rattle.line.proofs.Lines.{said-word, said-number, said-placed}
-use Rattle.line.specs.Line.{spoken, word-rented, word-set, word-returned, word-refused, word-stopped}
+use Rattle.line.specs.Line.{spoken, word-rented, word-set, word-returned, word-refused, word-stopped, word-reason}
 use mathlib.Core.Path.{ap}
 use Rattle.line.proofs.say.Statement.{statement}
 use Rattle.line.proofs.say.Tie as tie
@@ -40,6 +40,11 @@ unfolding spoken word-stopped
 returns-6 c = said-number word-stopped _ (ap spoken (c .before .before .before .before .w3 .given .1)) (omega arith)
     (omega arith) (c .numbered2 .ensures)
 
+returns-7 : tie.Need-returns-7
+unfolding spoken word-reason
+returns-7 c = said-placed word-reason _ _ (ap spoken (c .before .before .before .before .w4 .given .1)) (omega arith)
+    (omega arith) (c .placed2 .ensures)
+
 pub say-spec : {M : Type 1} → statement M
 say-spec =
     tie.close
@@ -62,9 +67,14 @@ say-spec =
     (λ c. search needs)
     (λ c. search needs)
     (λ c κs. search needs)
+    (λ c. search needs)
+    (λ c. search needs)
+    (λ c. search needs)
+    (λ c κs. search needs)
     returns
     returns-2
     returns-3
     returns-4
     returns-5
-    returns-6)
+    returns-6
+    returns-7)

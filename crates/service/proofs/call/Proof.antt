@@ -1,8 +1,8 @@
 -- `call`: one law for each call, whose sheet lies within the bytes.
 use borrow.Author.Needs.{needs}
 use native.Mathlib.Omega.{arith}
-use Rattle.service.proofs.Serving.{turned-rent, turned-set, turned-request, turned-return, turned-unserved, held-settings}
-use Rattle.service.proofs.Serving.{held-request}
+use Rattle.service.proofs.Serving.{turned-rent, turned-set, turned-request, turned-why, turned-return, turned-unserved}
+use Rattle.service.proofs.Serving.{held-settings, held-request, held-why}
 use Rattle.service.proofs.call.Statement.{statement}
 use Rattle.service.proofs.call.Tie as tie
 
@@ -30,6 +30,18 @@ request-requires c κs = (
   held-request (c .before .before .before .before .before .read-call .ensures) _ _ _ (c .before .before .before .room .given .1) .1,
 )
 
+sub-explain : tie.Need-sub-explain
+sub-explain c = omega (arith, held-why (c .before .before .before .read-call .ensures) _ _ _ _ (c .before .block .given .1) .order)
+
+part-explain-start : tie.Need-part-explain-start
+part-explain-start c = held-why (c .before .before .before .read-call .ensures) _ _ _ _ (c .before .block .given .1) .order
+
+part-explain-end : tie.Need-part-explain-end
+part-explain-end c = held-why (c .before .before .before .read-call .ensures) _ _ _ _ (c .before .block .given .1) .end
+
+explain-requires : tie.Need-explain-requires
+explain-requires c κs = c .before .before .before .before .before .before .before .before .pre .0
+
 returns : tie.Need-returns
 returns c =
     turned-rent (c .before .before .before .before .before .before .read-call .ensures) (c .before .before .rent .result) _ _
@@ -48,11 +60,17 @@ returns-3 c =
 
 returns-4 : tie.Need-returns-4
 returns-4 c =
-    turned-return (c .before .before .before .before .before .before .read-call .ensures) (c .before .before .give-back .result) _ _
-    (c .before .before .before .before .t2 .given .1) (c .before .before .give-back .ensures) (c .served3 .ensures)
+    turned-why _ _ (c .before .before .before .before .before .before .read-call .ensures) _ _ _ _
+    (c .before .before .before .before .before .before .before .before .before .pre .1)
+    (c .before .before .before .before .block .given .1) (c .explain .ensures)
 
 returns-5 : tie.Need-returns-5
 returns-5 c =
+    turned-return (c .before .before .before .before .before .before .read-call .ensures) (c .before .before .give-back .result) _ _
+    (c .before .before .before .before .t2 .given .1) (c .before .before .give-back .ensures) (c .served3 .ensures)
+
+returns-6 : tie.Need-returns-6
+returns-6 c =
     turned-unserved (c .before .before .before .before .before .read-call .ensures) _
     (c .before .before .before .e .given .1) (c .unserved .ensures)
 
@@ -76,6 +94,11 @@ call-spec =
     part-request-end
     request-requires
     (λ c. search needs)
+    sub-explain
+    part-explain-start
+    part-explain-end
+    explain-requires
+    (λ c. search needs)
     (λ c κs. search needs)
     (λ c κs. search needs)
     (λ c. search needs)
@@ -84,4 +107,5 @@ call-spec =
     returns-2
     returns-3
     returns-4
-    returns-5)
+    returns-5
+    returns-6)

@@ -1,6 +1,6 @@
 -- `follow`: one law for each call's number.
 use borrow.Author.Needs.{needs}
-use Rattle.stream.proofs.Framing.{first, second, third, fourth, unknown-call}
+use Rattle.stream.proofs.Framing.{first, second, third, fourth, fifth, unknown-call}
 use Rattle.field.specs.Refusal.{numberOf}
 use mathlib.Core.Path.{refl}
 use Rattle.stream.proofs.follow.Statement.{statement}
@@ -21,8 +21,12 @@ returns-4 c = fourth _ _ _ (c .before .before .before .before .if1 .left) (c .be
     (c .before .before .if3 .left) (c .before .if4 .taken) (c .give-back .ensures)
 
 returns-5 : tie.Need-returns-5
-returns-5 c = unknown-call _ _ _ (c .before .before .before .if1 .left) (c .before .before .if2 .left)
-    (c .before .if3 .left) (c .if4 .left) _ refl
+returns-5 c = fifth _ _ _ (c .before .before .before .before .before .if1 .left) (c .before .before .before .before .if2 .left)
+    (c .before .before .before .if3 .left) (c .before .before .if4 .left) (c .before .if5 .taken) (c .why .ensures)
+
+returns-6 : tie.Need-returns-6
+returns-6 c = unknown-call _ _ _ (c .before .before .before .before .if1 .left) (c .before .before .before .if2 .left)
+    (c .before .before .if3 .left) (c .before .if4 .left) (c .if5 .left) _ refl
 
 pub follow-spec : {M : Type 1} → statement M
 follow-spec =
@@ -36,4 +40,6 @@ follow-spec =
     returns-3
     (λ c κs. search needs)
     returns-4
-    returns-5)
+    (λ c κs. search needs)
+    returns-5
+    returns-6)

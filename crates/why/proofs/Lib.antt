@@ -1,0 +1,4 @@
+pub mod Within
+pub mod Answers
+pub mod Unique
+pub mod Timed
