@@ -61,7 +61,8 @@ static int ask(void)
         rp_put64(copies, b, COPIES[b]);
     set = rp_write_settings(UNIT, TENANCY, costs, sizeof costs, loads, sizeof loads, delays, sizeof delays, settings,
         sizeof settings);
-    asked = rp_write_request(UNIT, TENANCY, DISKS, copies, sizeof copies, request, sizeof request);
+    /* the loads were measured just now; a later request has RP_AGED_REQUEST and the microseconds since then */
+    asked = rp_write_request(RP_REQUEST, UNIT, TENANCY, 0, DISKS, copies, sizeof copies, request, sizeof request);
     if (refused("settings", set) || refused("request", asked))
         return 1;
     put_number(UNIT);

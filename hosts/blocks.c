@@ -139,7 +139,7 @@ static bool read_text(const struct bytes *text, const char *name, struct blocks 
     good = r.faults.count == 0;
     if (good) {
         tell_passed_over(&r);
-        *blocks = (struct blocks){ name, (struct block *)(void *)r.list.at, r.list.len / sizeof(struct block) };
+        *blocks = (struct blocks){ name, (struct block *)(void *)r.list.at, r.list.len / sizeof(struct block), 0, 0 };
     } else {
         faults_say(&r.faults);
         bytes_free(&r.list);
@@ -234,10 +234,10 @@ static void say_fault(const struct blocks *blocks, uint32_t tenancy, uint32_t di
     } else if (rp_refusal(answer) == RP_NO_ROOM) {
         faults_add(&faults, "%s: the sheet needs %s bytes, the buffer has %s", blocks->name,
             grouped(rp_place(answer)).text, grouped(RP_LONGEST_REQUEST).text);
-        cure = remedy_here(RP_NO_ROOM, KIND_REQUEST);
+        cure = remedy_here(RP_NO_ROOM, REQUEST);
     } else {
         if (rp_refusal(answer) == RP_NO_COPY)
-            cure = remedy_here(RP_NO_COPY, KIND_REQUEST);
+            cure = remedy_here(RP_NO_COPY, REQUEST);
         for (size_t i = 0; i < blocks->count; i++)
             add_block_fault(&faults, blocks, i, disks);
     }
@@ -253,7 +253,8 @@ uint32_t blocks_sheet(const struct blocks *blocks, uint32_t unit, uint32_t tenan
     uint64_t answer;
     for (size_t i = 0; i < blocks->count; i++)
         rp_put64(list, i, blocks->list[i].copies);
-    answer = rp_write_request(unit, tenancy, disks, list, 8 * blocks->count, sheet, RP_LONGEST_REQUEST);
+    answer = rp_write_request(blocks->kind == 0 ? RP_REQUEST : blocks->kind, unit, tenancy, blocks->age, disks, list,
+        8 * blocks->count, sheet, RP_LONGEST_REQUEST);
     bytes_free(&copies);
     if (rp_refusal(answer) != RP_ACCEPTED) {
         say_fault(blocks, tenancy, disks, answer);

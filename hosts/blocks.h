@@ -23,6 +23,8 @@ struct blocks {
     const char *name;
     struct block *list;
     size_t count;
+    uint32_t kind;      /* of the read request that it is or is to be; 0 of a list, which is one without an age */
+    uint32_t age;       /* of the settings, in microseconds, where the kind has one */
 };
 
 struct expected;

@@ -9,7 +9,7 @@
 #include "remedy.h"
 #include "say.h"
 
-const struct expected ANYTHING = { NULL, NULL, RP_MOST_DISKS, 0, false };
+const struct expected ANYTHING = { NULL, NULL, RP_MOST_DISKS, NO_SORT, false };
 const char SAYS_OTHERWISE[] = "the library says otherwise of this sheet: tell us, with the sheet";
 
 /* Where the reader is. */
@@ -137,17 +137,23 @@ static bool take_rising(struct reader *r, uint32_t most, bool first, uint32_t be
         (unsigned)before);
 }
 
-/* ---- the three kinds ---- */
+/* ---- the kinds ---- */
 
-static const char *kind_name(uint32_t kind)
-{
-    static const char *const NAMES[] = { "none", "settings", "read request", "plan" };
-    return kind <= KIND_PLAN ? NAMES[kind] : NAMES[0];
-}
+/* A row for each kind: what it is, its name in a line, and in a sentence. */
+static const struct kind {
+    enum sort sort;
+    const char *name;
+    const char *one;
+} KINDS[] = {
+    [KIND_SETTINGS] = { SETTINGS, "settings", "a settings sheet" },
+    [KIND_REQUEST] = { REQUEST, "read request", "a read request" },
+    [KIND_PLAN] = { PLAN, "plan", "a plan" },
+    [KIND_AGED] = { REQUEST, "read request with an age", "a read request with an age" },
+};
 
-static const char *sheet_name(uint32_t kind)
+static enum sort sort_of(uint32_t kind)
 {
-    return kind == KIND_SETTINGS ? "a settings sheet" : kind == KIND_REQUEST ? "a read request" : "a plan";
+    return kind < sizeof KINDS / sizeof KINDS[0] ? KINDS[kind].sort : NO_SORT;
 }
 
 /* Kind, unit and tenancy. */
@@ -157,13 +163,14 @@ static bool read_head(struct reader *r)
     next_is(r, "the kind");
     if (!take(r))
         return false;
-    if (r->value < KIND_SETTINGS || r->value > KIND_PLAN)
-        return REFUSE(r, RP_WRONG_KIND, "it is %s; settings are 1, a read request 2, a plan 3",
+    if (sort_of(r->value) == NO_SORT)
+        return REFUSE(r, RP_WRONG_KIND, "it is %s; settings are 1, a read request 2 or 4, a plan 3",
             grouped(r->value).text);
-    if (r->expected->kind != 0 && r->value != r->expected->kind)
-        return REFUSE(r, RP_WRONG_KIND, "it is %u, %s", (unsigned)r->value, sheet_name(r->value));
+    if (r->expected->sort != NO_SORT && sort_of(r->value) != r->expected->sort)
+        return REFUSE(r, RP_WRONG_KIND, "it is %u, %s", (unsigned)r->value, KINDS[r->value].one);
     c->kind = r->value;
-    put_line(r, "kind %u: %s", (unsigned)c->kind, kind_name(c->kind));
+    c->sort = sort_of(c->kind);
+    put_line(r, "kind %u: %s", (unsigned)c->kind, KINDS[c->kind].name);
     next_is(r, "the unit");
     if (!take(r))
         return false;
@@ -185,7 +192,7 @@ static bool read_head(struct reader *r)
             (unsigned)*r->expected->tenancy);
     put_line(r, "tenancy %u", (unsigned)c->tenancy);
     next_is(r, "after the tenancy");
-    if (c->kind == KIND_REQUEST && r->expected->disks == 0)
+    if (c->sort == REQUEST && r->expected->disks == 0)
         return refuse(r, RP_NO_SETTINGS, r->at, "the unit has no settings yet");
     return true;
 }
@@ -244,9 +251,25 @@ static bool read_block(struct reader *r, uint32_t block)
     return true;
 }
 
+/* The age, where the kind has one. */
+static bool read_age(struct reader *r)
+{
+    struct contents *c = r->contents;
+    if (c->kind != KIND_AGED)
+        return true;
+    next_is(r, "the age of the settings");
+    if (!take(r))
+        return false;
+    c->age = r->value;
+    put_line(r, "age: %s microsecond%s since the settings were measured", grouped(c->age).text, c->age == 1 ? "" : "s");
+    return true;
+}
+
 static bool read_request(struct reader *r)
 {
     struct contents *c = r->contents;
+    if (!read_age(r))
+        return false;
     next_is(r, "the number of blocks Q");
     if (!take_within(r, RP_OUT_OF_RANGE, 0, RP_MOST_BLOCKS))
         return false;
@@ -328,9 +351,9 @@ static bool read_plan(struct reader *r)
 static bool read_all(struct reader *r)
 {
     static bool (*const READ[])(struct reader *) = {
-        [KIND_SETTINGS] = read_settings, [KIND_REQUEST] = read_request, [KIND_PLAN] = read_plan
+        [SETTINGS] = read_settings, [REQUEST] = read_request, [PLAN] = read_plan
     };
-    if (!read_head(r) || !READ[r->contents->kind](r))
+    if (!read_head(r) || !READ[r->contents->sort](r))
         return false;
     next_is(r, "the end of the sheet");
     if (r->at == r->sheet->len)
@@ -367,10 +390,10 @@ void contents_read(const struct bytes *sheet, const struct expected *expected, s
         put_rest(&r);
 }
 
-bool contents_is_of(const struct bytes *sheet, uint32_t kind, uint32_t unit, uint32_t tenancy)
+bool contents_is_of(const struct bytes *sheet, enum sort sort, uint32_t unit, uint32_t tenancy)
 {
     struct contents contents = { .kind = 0 };
-    const struct expected expected = { &unit, &tenancy, RP_MOST_DISKS, kind, false };
+    const struct expected expected = { &unit, &tenancy, RP_MOST_DISKS, sort, false };
     struct reader r = { sheet, &expected, &contents, NULL, 0, 0, 0, 0 };
     return read_head(&r);
 }
@@ -395,13 +418,13 @@ void contents_say(const struct contents *contents, const char *name, const char 
 
 bool contents_begin(const struct bytes *bytes)
 {
-    return bytes->len > 0 && bytes->at[0] >= KIND_SETTINGS && bytes->at[0] <= KIND_PLAN;
+    return bytes->len > 0 && sort_of(bytes->at[0]) != NO_SORT;
 }
 
 static bool refused(const struct contents *contents, const char *name)
 {
     if (contents->refusal != RP_ACCEPTED)
-        contents_say(contents, name, remedy_here(contents->refusal, contents->kind));
+        contents_say(contents, name, remedy_here(contents->refusal, contents->sort));
     return contents->refusal != RP_ACCEPTED;
 }
 
@@ -409,14 +432,14 @@ bool contents_table(const struct bytes *sheet, const char *name, struct expected
 {
     static struct contents contents;
     struct bytes rows = bytes_new();
-    expected.kind = KIND_SETTINGS;
+    expected.sort = SETTINGS;
     contents_read(sheet, &expected, &contents, NULL);
     if (refused(&contents, name)) {
         bytes_free(&rows);
         return false;
     }
     bytes_add(&rows, contents.rows, contents.count * sizeof contents.rows[0]);
-    *table = (struct table){ name, (struct row *)(void *)rows.at, contents.count };
+    *table = (struct table){ name, (struct row *)(void *)rows.at, contents.count, false, 0 };
     return true;
 }
 
@@ -424,7 +447,7 @@ bool contents_blocks(const struct bytes *sheet, const char *name, struct expecte
 {
     static struct contents contents;
     struct bytes list = bytes_new();
-    expected.kind = KIND_REQUEST;
+    expected.sort = REQUEST;
     contents_read(sheet, &expected, &contents, NULL);
     if (refused(&contents, name)) {
         bytes_free(&list);
@@ -432,7 +455,7 @@ bool contents_blocks(const struct bytes *sheet, const char *name, struct expecte
     }
     for (uint32_t b = 0; b < contents.count; b++)
         bytes_add(&list, &(struct block){ contents.copies[b], 0 }, sizeof(struct block));
-    *blocks = (struct blocks){ name, (struct block *)(void *)list.at, contents.count };
+    *blocks = (struct blocks){ name, (struct block *)(void *)list.at, contents.count, contents.kind, contents.age };
     return true;
 }
 
@@ -469,8 +492,8 @@ static bool library_writes_request(const struct bytes *sheet, const struct conte
     static uint8_t copies[8 * RP_MOST_BLOCKS], written[RP_LONGEST_REQUEST];
     for (uint32_t b = 0; b < c->count; b++)
         rp_put64(copies, b, c->copies[b]);
-    return same(rp_write_request(c->unit, c->tenancy, disks, copies, 8 * c->count, written, sizeof written),
-        written, sheet);
+    return same(rp_write_request(c->kind, c->unit, c->tenancy, c->age, disks, copies, 8 * c->count, written,
+        sizeof written), written, sheet);
 }
 
 static bool library_reads_plan(const struct bytes *sheet, const struct contents *c, const struct expected *expected)
@@ -484,11 +507,11 @@ static bool library_reads_plan(const struct bytes *sheet, const struct contents 
 /* Whether the library says the same of a sheet. It reads plans, and writes the other two. */
 static bool library_agrees(const struct bytes *sheet, const struct contents *c, const struct expected *expected)
 {
-    if (c->kind == KIND_PLAN)
+    if (c->sort == PLAN)
         return library_reads_plan(sheet, c, expected);
     if (c->refusal != RP_ACCEPTED)
         return true;
-    return c->kind == KIND_SETTINGS ? library_writes_settings(sheet, c)
+    return c->sort == SETTINGS ? library_writes_settings(sheet, c)
         : library_writes_request(sheet, c, expected->disks);
 }
 
@@ -505,12 +528,12 @@ int contents_show(const struct bytes *sheet, const struct expected *expected, bo
     contents_read(sheet, expected, &contents, &text);
     if (contents.refusal == RP_ACCEPTED)
         bytes_addf(&text, "%5zu  %-28sthe end: a whole sheet%s\n", sheet->len, "",
-            contents.kind == KIND_REQUEST && !disks_known ? UP_TO_MOST : "");
+            contents.sort == REQUEST && !disks_known ? UP_TO_MOST : "");
     good = output_write(NULL, text.at, text.len);
     if (good && contents.refusal != RP_ACCEPTED) {
         contents_say(&contents, NULL, contents.refusal == RP_WRONG_KIND
             ? "these are not a sheet's bytes, or one of a newer version"
-            : remedy_here(contents.refusal, contents.kind));
+            : remedy_here(contents.refusal, contents.sort));
         good = false;
     }
     if (!library_agrees(sheet, &contents, expected)) {

@@ -1,6 +1,7 @@
 /*
- * What a sheet says, field by field: any of the three kinds, read left to right as document 01 has it, to the first
- * refusal and its place. The library has the last word: whatever is read here is held against it.
+ * What a sheet says, field by field: settings, a read request or a plan, of any kind, read left to right as the
+ * documents have it, to the first refusal and its place. The library has the last word: whatever is read here is held
+ * against it.
  */
 #ifndef CONTENTS_H
 #define CONTENTS_H
@@ -14,22 +15,26 @@
 #include "rippleplank.h"
 #include "table.h"
 
-enum { KIND_SETTINGS = 1, KIND_REQUEST = 2, KIND_PLAN = 3 };
+/* What a sheet may be, and the kinds that it may have, by the number that it begins with. */
+enum sort { NO_SORT, SETTINGS, REQUEST, PLAN };
+enum { KIND_SETTINGS = 1, KIND_REQUEST = RP_REQUEST, KIND_PLAN = 3, KIND_AGED = RP_AGED_REQUEST };
 
 /* What is expected of a sheet; null for anything. */
 struct expected {
     const uint32_t *unit;
     const uint32_t *tenancy;
     uint32_t disks;         /* N for a request, 64 where it is not known, 0 where there are no settings yet */
-    uint32_t kind;          /* 0 for any of the three */
+    enum sort sort;         /* NO_SORT for any of the three */
     bool not_rented;        /* every tenancy is refused */
 };
 extern const struct expected ANYTHING;
 
 struct contents {
-    uint32_t kind;          /* 0 where it is none of the three */
+    uint32_t kind;          /* 0 where it is none that there is, or none that is expected */
+    enum sort sort;         /* of that kind */
     uint32_t unit;
     uint32_t tenancy;
+    uint32_t age;           /* of a request; 0 where it has none */
     uint32_t count;         /* of disks or blocks */
     uint32_t time;          /* a plan's R */
     uint32_t short_size;
@@ -46,8 +51,8 @@ struct contents {
 void contents_read(const struct bytes *sheet, const struct expected *expected, struct contents *contents,
     struct bytes *text);
 
-/* Whether the first three fields are those of a sheet of this kind, unit and tenancy. */
-bool contents_is_of(const struct bytes *sheet, uint32_t kind, uint32_t unit, uint32_t tenancy);
+/* Whether the first three fields are those of a sheet of this sort, unit and tenancy. */
+bool contents_is_of(const struct bytes *sheet, enum sort sort, uint32_t unit, uint32_t tenancy);
 
 /* Adds the field at which a sheet is refused, and what stands there. */
 void contents_add(const struct contents *contents, struct bytes *what);
@@ -64,7 +69,7 @@ bool contents_begin(const struct bytes *bytes);
 
 /*
  * The table of a settings sheet, and the blocks of a read request; or says why there are none. What is expected of the
- * kind is known here.
+ * sort is known here.
  */
 bool contents_table(const struct bytes *sheet, const char *name, struct expected expected, struct table *table);
 bool contents_blocks(const struct bytes *sheet, const char *name, struct expected expected, struct blocks *blocks);

@@ -63,6 +63,8 @@ void plan_json(const struct view *view, struct bytes *text)
     add_named(text, "tenancy", plan->tenancy);
     add_named(text, "blocks", plan->blocks);
     add_named(text, "time", plan->time);
+    if (view->table != NULL && view->table->aged)
+        add_named(text, "age", view->table->age);
     bytes_addf(text, ",\"disk_of_block\":[");
     for (uint32_t b = 0; b < plan->blocks; b++)
         add_number(text, plan->disk[b]);

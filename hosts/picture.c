@@ -149,11 +149,12 @@ static void draw_columns(struct bytes *svg)
     draw_text(svg, RIGHT + 12, TOP - 8, "class=\"faint\"", "ends at");
 }
 
-static void draw_legend(const struct plan *plan, struct bytes *svg)
+static void draw_legend(const struct view *view, struct bytes *svg)
 {
+    const struct plan *plan = view->plan;
     struct bytes label = bytes_new();
     draw_wait(svg, EDGE, 50, 34);
-    draw_text(svg, EDGE + 42, 65, "", "delay and load");
+    draw_text(svg, EDGE + 42, 65, "", view->table->aged ? "delay, load left" : "delay and load");
     draw_box(svg, "block", EDGE + 152, 50, 34, BAR);
     bytes_addf(svg, "/>\n");
     draw_text(svg, EDGE + 194, 65, "", "block");
@@ -164,8 +165,8 @@ static void draw_legend(const struct plan *plan, struct bytes *svg)
     bytes_free(&label);
 }
 
-/* What stands under the picture: the short set and, where it is known, why R is least. */
-static void add_words(const struct view *view, struct bytes *words)
+/* What is said of the short set: that it is short and, where it is known, why R is least. */
+static void add_short(const struct view *view, struct bytes *words)
 {
     const struct plan *plan = view->plan;
     const struct reason *reason = view->reason;
@@ -192,6 +193,17 @@ static void add_words(const struct view *view, struct bytes *words)
     bytes_addf(words, " of the %u.", (unsigned)plan->short_size);
 }
 
+/* What stands under the picture: that, and the age of the loads. */
+static void add_words(const struct view *view, struct bytes *words)
+{
+    struct bytes age = bytes_new();
+    add_short(view, words);
+    add_age(&age, view->table);
+    if (age.len > 0)
+        bytes_addf(words, "%sThe %s.", words->len > 0 ? "\n" : "", bytes_text(&age));
+    bytes_free(&age);
+}
+
 static void draw_title(const struct plan *plan, struct bytes *svg, double height)
 {
     struct bytes title = bytes_new();
@@ -212,7 +224,7 @@ void plan_draw(const struct view *view, struct bytes *svg)
     add_words(view, &words);
     lines = draw_words(NULL, bytes_text(&words), 0);
     draw_title(plan, svg, bottom + FOOT + (lines > 0 ? 6 : 0) + LINE * (double)lines);
-    draw_legend(plan, svg);
+    draw_legend(view, svg);
     draw_columns(svg);
     for (uint32_t d = 0; d < disks; d++)
         draw_lane(svg, d);

@@ -12,17 +12,17 @@
 static void say_place(const char *name, const struct found *found, uint32_t unit, uint32_t tenancy, uint64_t answer)
 {
     static struct contents contents;
-    const struct expected expected = { &unit, &tenancy, RP_MOST_DISKS, KIND_PLAN, false };
+    const struct expected expected = { &unit, &tenancy, RP_MOST_DISKS, PLAN, false };
     struct bytes whose = bytes_new();
     bytes_addf(&whose, "%s", name);
     if (found->line > 0)
         bytes_addf(&whose, ":%u", found->line);
     contents_read(&found->sheet, &expected, &contents, NULL);
     if (contents_agree(&contents, answer))
-        contents_say(&contents, bytes_text(&whose), remedy_here(rp_refusal(answer), KIND_PLAN));
+        contents_say(&contents, bytes_text(&whose), remedy_here(rp_refusal(answer), PLAN));
     else
         say_refused_at(rp_refusal(answer), rp_place(answer), SAYS_OTHERWISE, bytes_text(&whose),
-            remedy_here(rp_refusal(answer), KIND_PLAN));
+            remedy_here(rp_refusal(answer), PLAN));
     bytes_free(&whose);
 }
 
@@ -60,7 +60,12 @@ uint64_t end_of(const struct row *row, uint32_t blocks)
 }
 
 static const char OTHER_TABLE[] = "it is another unit's table, or an older one, or the plan is damaged";
+static const char NO_AGE[] =
+    "it is another unit's table, or an older one, or the request has an age (--age), or the plan is damaged";
+static const char OTHER_AGE[] =
+    "it is another unit's table, or an older one, or the request has another age, or the plan is damaged";
 static const char OTHER_LIST[] = "it is another request's plan, or it is damaged";
+static const char OTHER_AGED[] = "it is another request's plan, or the request has another age, or it is damaged";
 static const char OTHER_CALLS[] = "the line is damaged, or answers other calls";
 
 /* Adds a fault: of the table or list that the plan is held against or, with calls, of the line where the plan stands. */
@@ -109,7 +114,9 @@ bool plan_fits(const struct plan *plan, const struct table *table)
         bytes_addf(&fault, "the plan's time is %s, and by ", grouped(plan->time).text);
         add_held(&fault, plan, "this table", "the settings in ");
         bytes_addf(&fault, " it ends at %s", grouped(latest).text);
-        add_fault(&faults, plan, table->name, &fault, OTHER_TABLE);
+        if (table->aged)
+            bytes_addf(&fault, ", with the loads at an age of %s", grouped(table->age).text);
+        add_fault(&faults, plan, table->name, &fault, table->aged ? OTHER_AGE : NO_AGE);
     }
     return none_said(&faults, &fault);
 }
@@ -162,7 +169,7 @@ bool plan_reason(const struct plan *plan, const struct blocks *blocks, const str
         "room for %s", grouped(plan->time - 1).text, (unsigned)plan->short_size, plan->short_size == 1 ? "" : "s",
         grouped(reason->sum).text);
     if (plan->calls == NULL)
-        say("%s (%s, %s); %s", bytes_text(&fault), table->name, blocks->name, OTHER_LIST);
+        say("%s (%s, %s); %s", bytes_text(&fault), table->name, blocks->name, table->aged ? OTHER_AGED : OTHER_LIST);
     else
         say("%s:%u: %s, by the settings in %s; %s", plan->name, plan->line, bytes_text(&fault), plan->calls, OTHER_CALLS);
     bytes_free(&fault);
@@ -192,6 +199,13 @@ struct digits range(uint32_t first, uint32_t last)
         return plain(first);
     snprintf(word.text, sizeof word.text, "%u-%u", (unsigned)first, (unsigned)last);
     return word;
+}
+
+void add_age(struct bytes *text, const struct table *table)
+{
+    if (table != NULL && table->aged)
+        bytes_addf(text, "loads are what is left of them at an age of %s microsecond%s", grouped(table->age).text,
+            table->age == 1 ? "" : "s");
 }
 
 void add_short_set(struct bytes *text, const struct plan *plan)

@@ -45,7 +45,7 @@ struct view {
 /* Reads a plan sheet of a file, or says why it is refused and where. */
 bool plan_read(const char *name, const struct found *found, uint32_t unit, uint32_t tenancy, struct plan *plan);
 
-/* When a disk can begin its first block: its delay and its load. */
+/* When a disk can begin its first block: its delay and its load, or what is left of it. */
 uint64_t start_of(const struct row *row);
 
 /* When a disk has read so many blocks; an idle disk ends at 0, whatever its load. */
@@ -72,6 +72,9 @@ uint32_t run_end(const struct plan *plan, uint32_t first);
 
 /* A run as a word: 5, or 5-9. */
 struct digits range(uint32_t first, uint32_t last);
+
+/* Adds, where the loads are taken at an age, a sentence that says so; without its end. */
+void add_age(struct bytes *text, const struct table *table);
 
 /* Adds the short set as words: " 0-6 16". */
 void add_short_set(struct bytes *text, const struct plan *plan);

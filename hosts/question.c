@@ -183,7 +183,7 @@ static size_t find(const struct sheets *sheets, uint32_t unit, uint32_t tenancy,
     size_t count = 0;
     for (size_t i = 0; i < sheets->why_count; i++) {
         const struct why *why = &sheets->whys[i];
-        bool known = !contents_is_of(&why->call->sheet, KIND_REQUEST, unit, tenancy);
+        bool known = !contents_is_of(&why->call->sheet, REQUEST, unit, tenancy);
         for (size_t j = 0; j < i && !known; j++)
             known = same_request(&sheets->whys[j], why->call, why->settings);
         if (!known && ++count == nth)
@@ -285,7 +285,7 @@ static bool answered(const struct sheets *sheets, uint32_t unit)
 
 bool question_read(const struct sheets *sheets, uint32_t unit, uint32_t tenancy, uint32_t nth, struct question *q)
 {
-    const struct expected expected = { &unit, &tenancy, RP_MOST_DISKS, 0, false };
+    const struct expected expected = { &unit, &tenancy, RP_MOST_DISKS, NO_SORT, false };
     const struct why *first;
     memset(q, 0, sizeof *q);
     if (!answered(sheets, unit) || (first = choose(sheets, unit, tenancy, nth)) == NULL)
@@ -296,6 +296,8 @@ bool question_read(const struct sheets *sheets, uint32_t unit, uint32_t tenancy,
     if (!contents_blocks(&first->call->sheet, sheets->sent.name, expected, &q->blocks)
         || !contents_table(&first->settings->sheet, sheets->sent.name, expected, &q->table))
         return false;
+    if (q->blocks.kind == RP_AGED_REQUEST)
+        table_age(&q->table, q->blocks.age);
     take_unanswered(sheets, first, q);
     return take_plan(sheets, first, q) && sort(sheets, q) && all_hold(sheets, q);
 }

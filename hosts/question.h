@@ -22,7 +22,7 @@ struct pair {
 struct question {
     uint32_t unit, tenancy;
     struct blocks blocks;       /* the request's */
-    struct table table;         /* the settings' */
+    struct table table;         /* the settings', with the loads at the request's age */
     struct plan plan;
     unsigned plan_line;         /* 0 where its plan under these settings is not among the shelf's lines */
     bool planned_before;        /* it is there under other settings */

@@ -2,7 +2,6 @@
 
 #include <stddef.h>
 
-#include "contents.h"
 #include "rippleplank.h"
 
 struct remedy {
@@ -58,9 +57,9 @@ static bool is_of_list(unsigned refusal)
         || refusal == RP_BAD_INDEX;
 }
 
-const char *remedy_here(unsigned refusal, uint32_t kind)
+const char *remedy_here(unsigned refusal, enum sort sort)
 {
-    const bool of_list = (kind == KIND_SETTINGS || kind == KIND_REQUEST) && is_of_list(refusal);
+    const bool of_list = (sort == SETTINGS || sort == REQUEST) && is_of_list(refusal);
     const char *words = of_list ? row(refusal).at_shelf : row(refusal).here;
     return words != NULL ? words : NEWER;
 }

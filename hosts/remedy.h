@@ -3,10 +3,11 @@
 #define REMEDY_H
 
 #include <stdbool.h>
-#include <stdint.h>
 
-/* Of a sheet of a kind that this program read; the kind is 0 where it is none. */
-const char *remedy_here(unsigned refusal, uint32_t kind);
+#include "contents.h"
+
+/* Of a sheet of a sort that this program read; NO_SORT where it is none. */
+const char *remedy_here(unsigned refusal, enum sort sort);
 
 /* Of a call that the shelf refused; `rented` where its lines show that the unit was rented then. */
 const char *remedy_at_shelf(unsigned refusal, bool rented);

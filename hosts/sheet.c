@@ -50,7 +50,7 @@ struct reading {
     uint32_t disks;         /* N, by lines and calls; 0 before any settings */
     const struct call *settings;    /* the call that set them; null where it is not known */
     const struct call *read;        /* whose sheet was read last, since the unit changed; null for none */
-    uint32_t read_kind;     /* and what it was read as */
+    enum sort read_as;      /* and what it was read as */
     unsigned others;        /* how many refusals the calls do not explain */
 };
 
@@ -108,14 +108,14 @@ static const struct contents *read_sent(struct reading *r)
 {
     static struct contents contents;
     const struct call *call = call_of(r);
-    const uint32_t kind = call->kind == CALL_SETTINGS ? KIND_SETTINGS : KIND_REQUEST;
-    const struct expected expected = { &r->sent->unit, &r->tenancy, r->disks, kind, !r->rented };
+    const enum sort sort = call->kind == CALL_SETTINGS ? SETTINGS : REQUEST;
+    const struct expected expected = { &r->sent->unit, &r->tenancy, r->disks, sort, !r->rented };
     if (call->kind == CALL_RENT || call->kind == CALL_RETURN)
         return NULL;
-    if (r->read == NULL || r->read_kind != kind || !call_same_sheet(r->read, call))
+    if (r->read == NULL || r->read_as != sort || !call_same_sheet(r->read, call))
         contents_read(&call->sheet, &expected, &contents, NULL);
     r->read = call;
-    r->read_kind = kind;
+    r->read_as = sort;
     return &contents;
 }
 
@@ -544,7 +544,7 @@ static size_t find_plan(const struct sheets *sheets, uint32_t unit, uint32_t ten
 {
     size_t count = 0;
     for (size_t i = 0; i < sheets->count; i++)
-        if (contents_is_of(&sheets->list[i].sheet, KIND_PLAN, unit, tenancy) && ++count == nth)
+        if (contents_is_of(&sheets->list[i].sheet, PLAN, unit, tenancy) && ++count == nth)
             *plan = &sheets->list[i];
     return count;
 }

@@ -259,7 +259,7 @@ static bool read_text(const struct bytes *text, const char *name, struct table *
         bytes_free(&r.rows);
     } else {
         tell_passed_over(&r);
-        *table = (struct table){ name, (struct row *)(void *)r.rows.at, r.rows.len / sizeof(struct row) };
+        *table = (struct table){ name, (struct row *)(void *)r.rows.at, r.rows.len / sizeof(struct row), false, 0 };
     }
     faults_free(&r.faults);
     return !r.unreadable;
@@ -287,6 +287,14 @@ void table_free(struct table *table)
     table->count = 0;
 }
 
+void table_age(struct table *table, uint32_t age)
+{
+    for (size_t i = 0; i < table->count; i++)
+        table->rows[i].load = table->rows[i].load < age ? 0 : table->rows[i].load - age;
+    table->aged = true;
+    table->age = age;
+}
+
 /* Says why a table was refused, with everything that is out of range: a writer tells no place, the lines do. */
 static void say_fault(const struct table *table, uint32_t tenancy, uint64_t answer)
 {
@@ -298,7 +306,7 @@ static void say_fault(const struct table *table, uint32_t tenancy, uint64_t answ
     } else if (rp_refusal(answer) == RP_NO_ROOM) {
         faults_add(&faults, "%s: the sheet needs %s bytes, the buffer has %d", table->name,
             grouped(rp_place(answer)).text, RP_LONGEST_SETTINGS);
-        cure = remedy_here(RP_NO_ROOM, KIND_SETTINGS);
+        cure = remedy_here(RP_NO_ROOM, SETTINGS);
     } else if (table->count < 1 || table->count > RP_MOST_DISKS) {
         faults_add(&faults, "%s: %zu disks, and a unit has 1 to %d", table->name, table->count, RP_MOST_DISKS);
     } else {

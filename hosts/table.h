@@ -22,6 +22,8 @@ struct table {
     const char *name;   /* of the file, to be shown */
     struct row *rows;
     size_t count;
+    bool aged;          /* the loads are what is left of them at an age */
+    uint32_t age;
 };
 
 struct expected;
@@ -29,6 +31,9 @@ struct expected;
 /* Reads a table, or says everything that is wrong with it; of a sheet, unit and tenancy are as expected. */
 bool table_read(const char *path, const struct expected *expected, struct table *table);
 void table_free(struct table *table);
+
+/* Takes the loads at an age: each is then what is left of it, and 0 where the age is larger. */
+void table_age(struct table *table, uint32_t age);
 
 /* The settings sheet of a table; gives its length, or says why it is refused and gives 0. */
 uint32_t table_sheet(const struct table *table, uint32_t unit, uint32_t tenancy,

@@ -16,9 +16,9 @@
 #include "why.h"
 
 static const char USAGE[] =
-    "usage: tenant request UNIT TENANCY DISKS [LIST] [-o FILE]\n"
-    "       tenant plan UNIT TENANCY [SHEET] [--nth N] [--disks TABLE [--svg FILE]] [--request LIST]\n"
-    "                   [--calls FILE] [--by-block | --json | --line | --time]\n"
+    "usage: tenant request UNIT TENANCY DISKS [LIST] [--age MICROSECONDS] [-o FILE]\n"
+    "       tenant plan UNIT TENANCY [SHEET] [--nth N] [--disks TABLE [--age MICROSECONDS] [--svg FILE]]\n"
+    "                   [--request LIST] [--calls FILE] [--by-block | --json | --line | --time]\n"
     "       tenant why UNIT TENANCY [ANSWERS] --calls FILE [--nth N] [--block BLOCK [--svg FILE]]\n"
     "                   [--disk DISK] [--json]\n"
     "       tenant show [SHEET] [--unit UNIT] [--tenancy TENANCY] [--disks N] [--calls FILE]\n"
@@ -27,14 +27,17 @@ static const char USAGE[] =
 static const char HELP[] =
     "\n"
     "request writes a read request of TENANCY to UNIT, whose table has DISKS disks, to FILE, or to\n"
-    "standard output.\n"
+    "standard output. With --age MICROSECONDS, the time since the settings were measured, each load\n"
+    "counts as what is left of it by then; without it, as it was measured.\n"
     "\n"
     "LIST is a file of text, by default standard input: a line for each block in turn, at most\n"
     "1,024, with the numbers of the 1 to 8 disks that hold it, in any order, parted by blanks or\n"
     "any of , ; | / and a line of a single - for a block that no disk holds (such a request is\n"
     "refused). A block's number and a colon may stand before its disks, and are then checked. What\n"
     "follows a # is a comment. Empty lines are no blocks; one that stands among blocks, with no\n"
-    "comment beside it, is told, and so is a block in a comment, unless the lines have numbers.\n"
+    "comment beside it, is told, and so is a block in a comment, unless the lines have numbers. A\n"
+    "read request will do too, and is written for UNIT and TENANCY; it keeps its age, unless --age\n"
+    "gives another.\n"
     "\n"
     "    0: 0 1\n"
     "    1: 0 1       # the same two disks\n"
@@ -49,6 +52,8 @@ static const char HELP[] =
     "--nth N         the Nth plan of UNIT and TENANCY, where there are several\n"
     "--disks TABLE   the table of disks that the settings sheet was made from (see desk --help), or\n"
     "                that sheet: shows when each disk starts and ends, and the timeline to R\n"
+    "--age MICROSECONDS  the age that the request was written with: the loads are what is left of them\n"
+    "                then; where --request is a read request or --calls is given, they have it\n"
     "--svg FILE      writes that timeline as a picture, with the short set's blocks marked\n"
     "--request LIST  the list that the request was made from, or that sheet: checks that every\n"
     "                block is read from a disk that holds it; with --disks also that R is least,\n"
@@ -85,16 +90,24 @@ static const char HELP[] =
 
 static int request(char **words)
 {
-    const char *places[4] = { NULL, NULL, NULL, NULL }, *out = NULL;
-    const struct option options[] = { { "-o", &out, NULL }, { NULL, NULL, NULL } };
+    const char *places[4] = { NULL, NULL, NULL, NULL }, *age_word = NULL, *out = NULL;
+    const struct option options[] = { { "--age", &age_word, NULL }, { "-o", &out, NULL }, { NULL, NULL, NULL } };
     static uint8_t sheet[RP_LONGEST_REQUEST];
-    uint32_t unit, tenancy, disks, len;
+    uint32_t unit, tenancy, disks, age = 0, len;
     struct blocks blocks;
     if (!options_read(words, places, 3, 4, options) || !word_number("UNIT", places[0], &unit)
-        || !word_number("TENANCY", places[1], &tenancy) || !word_number("DISKS", places[2], &disks))
+        || !word_number("TENANCY", places[1], &tenancy) || !word_number("DISKS", places[2], &disks)
+        || (age_word != NULL && !word_number("--age", age_word, &age)))
         return program_usage();
     if (!blocks_read(places[3], &ANYTHING, &blocks))
         return STATUS_BAD;
+    if (age_word != NULL) {
+        blocks.kind = RP_AGED_REQUEST;
+        blocks.age = age;
+    } else if (blocks.kind == RP_AGED_REQUEST) {
+        say("%s: its age is kept, %s microsecond%s; --age gives another", blocks.name, grouped(blocks.age).text,
+            blocks.age == 1 ? "" : "s");
+    }
     len = blocks_sheet(&blocks, unit, tenancy, disks, sheet);
     if (len > 0 && blocks.count == 0)
         say("%s: there is no block in it: this request asks for nothing", blocks.name);
@@ -105,25 +118,29 @@ static int request(char **words)
 /* What `tenant plan` is asked for. */
 struct wish {
     const char *places[3];
-    const char *nth, *disks, *picture, *request, *calls;
+    const char *nth, *disks, *age_word, *picture, *request, *calls;
     bool by_block, json, line, time;
-    uint32_t unit, tenancy, number;
+    uint32_t unit, tenancy, number, age;
 };
 
 static bool read_wish(char **words, struct wish *w)
 {
     const struct option options[] = {
-        { "--nth", &w->nth, NULL }, { "--disks", &w->disks, NULL }, { "--svg", &w->picture, NULL },
-        { "--request", &w->request, NULL }, { "--calls", &w->calls, NULL }, { "--by-block", NULL, &w->by_block },
-        { "--json", NULL, &w->json }, { "--line", NULL, &w->line }, { "--time", NULL, &w->time }, { NULL, NULL, NULL }
+        { "--nth", &w->nth, NULL }, { "--disks", &w->disks, NULL }, { "--age", &w->age_word, NULL },
+        { "--svg", &w->picture, NULL }, { "--request", &w->request, NULL }, { "--calls", &w->calls, NULL },
+        { "--by-block", NULL, &w->by_block }, { "--json", NULL, &w->json }, { "--line", NULL, &w->line },
+        { "--time", NULL, &w->time }, { NULL, NULL, NULL }
     };
     memset(w, 0, sizeof *w);
     if (!options_read(words, w->places, 2, 3, options) || !word_number("UNIT", w->places[0], &w->unit)
         || !word_number("TENANCY", w->places[1], &w->tenancy)
-        || (w->nth != NULL && !word_number("--nth", w->nth, &w->number)))
+        || (w->nth != NULL && !word_number("--nth", w->nth, &w->number))
+        || (w->age_word != NULL && !word_number("--age", w->age_word, &w->age)))
         return false;
     if (w->nth != NULL && w->number == 0)
         say("--nth counts from 1");
+    else if (w->age_word != NULL && w->disks == NULL)
+        say("--age is taken off the loads of a table, so it needs --disks TABLE");
     else if (w->by_block + w->json + w->line + w->time > 1)
         say("--by-block, --json, --line and --time are four ways to show one plan; give one of them");
     else if (w->picture != NULL && w->disks == NULL)
@@ -135,8 +152,20 @@ static bool read_wish(char **words, struct wish *w)
     return false;
 }
 
+/* Takes kind and age of the request that a plan answers, where the calls tell which that is. */
+static void take_sent(const struct wish *w, const struct found *found, struct blocks *sent)
+{
+    static struct contents request;
+    if (found->call == NULL)
+        return;
+    contents_read(&found->call->sheet, &ANYTHING, &request, NULL);
+    sent->name = w->calls;
+    sent->kind = request.kind;
+    sent->age = request.age;
+}
+
 /* Reads the plan of a sheet's file; what the shelf refused beside it is told. */
-static bool read_plan(const struct wish *w, struct plan *plan, bool *told)
+static bool read_plan(const struct wish *w, struct plan *plan, struct blocks *sent, bool *told)
 {
     struct sheets sheets;
     const struct found *found;
@@ -147,6 +176,8 @@ static bool read_plan(const struct wish *w, struct plan *plan, bool *told)
     *told = sheets_trouble(&sheets);
     found = sheets_plan(&sheets, w->unit, w->tenancy, w->number);
     good = found != NULL && plan_read(sheets.name, found, w->unit, w->tenancy, plan);
+    if (good)
+        take_sent(w, found, sent);
     sheets_free(&sheets);
     return good;
 }
@@ -155,34 +186,60 @@ static bool read_plan(const struct wish *w, struct plan *plan, bool *told)
 static bool read_table(const char *path, const struct plan *plan, struct table *table)
 {
     uint8_t sheet[RP_LONGEST_SETTINGS];
-    const struct expected expected = { &plan->unit, &plan->tenancy, RP_MOST_DISKS, 0, false };
-    if (!table_read(path, &expected, table))
-        return false;
-    if (table_sheet(table, plan->unit, plan->tenancy, sheet) > 0 && plan_fits(plan, table))
-        return true;
-    table_free(table);
-    return false;
+    const struct expected expected = { &plan->unit, &plan->tenancy, RP_MOST_DISKS, NO_SORT, false };
+    return table_read(path, &expected, table) && table_sheet(table, plan->unit, plan->tenancy, sheet) > 0;
 }
 
 /* Reads the plan's request, which has to be one that a unit of so many disks would take. */
 static bool read_request(const char *path, const struct plan *plan, uint32_t disks, struct blocks *blocks)
 {
     static uint8_t sheet[RP_LONGEST_REQUEST];
-    const struct expected expected = { &plan->unit, &plan->tenancy, disks, 0, false };
-    return blocks_read(path, &expected, blocks)
-        && blocks_sheet(blocks, plan->unit, plan->tenancy, disks, sheet) > 0 && plan_holds(plan, blocks);
+    const struct expected expected = { &plan->unit, &plan->tenancy, disks, NO_SORT, false };
+    return blocks_read(path, &expected, blocks) && blocks_sheet(blocks, plan->unit, plan->tenancy, disks, sheet) > 0;
 }
 
-/* Reads what the plan is held against. */
-static bool read_rest(const struct wish *w, const struct plan *plan, struct table *table, struct blocks *blocks,
-    struct reason *reason)
+/* Where an age may stand. */
+struct source {
+    const char *name;
+    bool known;
+    uint32_t age;
+};
+
+/*
+ * Takes the loads at the age that is given, or that the request has, as a sheet or among the calls; where several tell
+ * it, they have to tell the same. A table whose loads are taken as they are stays as it is.
+ */
+static bool take_age(const struct wish *w, const struct blocks *blocks, const struct blocks *sent, struct table *table)
 {
-    if (w->disks != NULL && !read_table(w->disks, plan, table))
+    const struct source sources[] = { { "--age", w->age_word != NULL, w->age }, { blocks->name, blocks->kind != 0,
+        blocks->age }, { sent->name, sent->kind != 0, sent->age } };
+    const bool aged = w->age_word != NULL || blocks->kind == RP_AGED_REQUEST || sent->kind == RP_AGED_REQUEST;
+    const struct source *first = NULL;
+    for (size_t i = 0; i < sizeof sources / sizeof sources[0]; i++) {
+        if (first != NULL && sources[i].known && sources[i].age != first->age) {
+            say("the age of the request is %s by %s and %s by %s", grouped(first->age).text, first->name,
+                grouped(sources[i].age).text, sources[i].name);
+            return false;
+        }
+        first = first == NULL && sources[i].known ? &sources[i] : first;
+    }
+    if (aged)
+        table_age(table, first->age);
+    return true;
+}
+
+/* Reads what the plan is held against, and holds it. */
+static bool read_rest(const struct wish *w, const struct plan *plan, const struct blocks *sent, struct table *table,
+    struct blocks *blocks, struct reason *reason)
+{
+    const bool by_table = w->disks != NULL, by_request = w->request != NULL;
+    if (by_table && !read_table(w->disks, plan, table))
         return false;
-    if (w->request == NULL)
-        return true;
-    return read_request(w->request, plan, w->disks == NULL ? RP_MOST_DISKS : (uint32_t)table->count, blocks)
-        && (w->disks == NULL || plan_reason(plan, blocks, table, reason));
+    if (by_request && !read_request(w->request, plan, by_table ? (uint32_t)table->count : RP_MOST_DISKS, blocks))
+        return false;
+    return (!by_table || (take_age(w, blocks, sent, table) && plan_fits(plan, table)))
+        && (!by_request || plan_holds(plan, blocks))
+        && (!by_table || !by_request || plan_reason(plan, blocks, table, reason));
 }
 
 static void add_plan(const struct wish *w, const struct view *view, struct bytes *text)
@@ -217,13 +274,13 @@ static int plan(char **words)
 {
     static struct plan plan;
     struct wish w;
-    struct table table = { NULL, NULL, 0 };
-    struct blocks blocks = { NULL, NULL, 0 };
+    struct table table = { NULL, NULL, 0, false, 0 };
+    struct blocks blocks = { NULL, NULL, 0, 0, 0 }, sent = blocks;
     struct reason reason;
     bool good, told = false;
     if (!read_wish(words, &w))
         return program_usage();
-    good = read_plan(&w, &plan, &told) && read_rest(&w, &plan, &table, &blocks, &reason)
+    good = read_plan(&w, &plan, &sent, &told) && read_rest(&w, &plan, &sent, &table, &blocks, &reason)
         && put_plan(&w, &(struct view){ &plan, w.disks == NULL ? NULL : &table,
             w.request == NULL ? NULL : &blocks, w.disks == NULL || w.request == NULL ? NULL : &reason, w.by_block,
             output_width() });

@@ -148,6 +148,7 @@ static void show_timeline(const struct view *view, struct bytes *text)
 {
     const struct plan *plan = view->plan;
     size_t width = view->width < BESIDE_LINE + LEAST_LINE ? LEAST_LINE : view->width - BESIDE_LINE;
+    struct bytes age = bytes_new();
     char line[MOST_LINE + 1];
     width = width > MOST_LINE ? MOST_LINE : width;
     bytes_addf(text, "\ndisk        start          end  0%*s\n", (int)width, "R");
@@ -158,7 +159,12 @@ static void show_timeline(const struct view *view, struct bytes *text)
             plan->counts[d] == 0 ? "idle" : grouped(start_of(row)).text,
             grouped(end_of(row, plan->counts[d])).text, line);
     }
-    add_sentence(view, text, "times in microseconds; . delay and load, = a block, # a block of the short set");
+    add_sentence(view, text, "times in microseconds; . delay and load%s, = a block, # a block of the short set",
+        view->table->aged ? " left" : "");
+    add_age(&age, view->table);
+    if (age.len > 0)
+        add_sentence(view, text, "%s", bytes_text(&age));
+    bytes_free(&age);
 }
 
 static void show_short_set(const struct view *view, struct bytes *text)

@@ -11,6 +11,8 @@
  *   block       one of a request's Q blocks, 0 to Q - 1; Q is 0 to 1,024
  *   copies      the disks that hold a block, one 64-bit number: bit d stands for disk d
  *   cost, load, delay   a disk's microseconds for one block, still to work off, and of travel
+ *   age         the microseconds since the settings were measured; each load counts as the load less the
+ *               age, and as 0 if the age is larger
  *   R           the plan's time in microseconds
  *   short set   the m blocks that can not all be read one microsecond sooner
  *   refusal     0 accepted, else why not: RP_SHEET_ENDS and on, 1 to 16
@@ -35,8 +37,11 @@
 extern "C" {
 #endif
 
-/* The version of this header. That of the library which is linked is rp_version(). */
-#define RP_VERSION "1.1.0"
+/*
+ * The version of this header. That of the library which is linked is rp_version(). The first number is higher where a
+ * function takes other arguments, the second where something was added or an answer is another.
+ */
+#define RP_VERSION "2.0.0"
 
 /* The refusals. The desk end gives 1 to 9, 11, 15 and 16; a unit gives 10 and 12 to 14 as well. */
 enum {
@@ -55,11 +60,17 @@ enum {
     RP_RENTED = 12,         /* rent while rented */
     RP_NOT_ABOVE = 13,      /* rent not above the last tenancy */
     RP_NOT_THE_TENANT = 14, /* return while not rented, or of another tenancy */
-    RP_BAD_AMOUNT = 15,     /* a cost, load, delay or plan time is out of its range */
+    RP_BAD_AMOUNT = 15,     /* a cost, load, delay or plan time is out of its range, or a request of kind 2 has an age */
     RP_BAD_INDEX = 16       /* a disk or block number is out of its range */
 };
 
-/* The limits of document 01. */
+/* The kinds of a read request: one without an age, which means age 0, and one with it. */
+enum {
+    RP_REQUEST = 2,
+    RP_AGED_REQUEST = 4
+};
+
+/* The limits of document 01, and of what has been added to it. */
 enum {
     RP_MOST_DISKS = 64,
     RP_MOST_BLOCKS = 1024,
@@ -69,7 +80,7 @@ enum {
     RP_MOST_DELAY = 1000000,
     RP_MOST_TIME = 1125000000,
     RP_LONGEST_SETTINGS = 652,    /* bytes; an `out` of this length is never too short */
-    RP_LONGEST_REQUEST = 9229,
+    RP_LONGEST_REQUEST = 9234,
     RP_LONGEST_PLAN = 2964
 };
 
@@ -93,18 +104,21 @@ uint64_t rp_write_settings(uint32_t unit, uint32_t tenancy,
 /*
  * Writes a read request: one number of copies for each block, bit d set where disk d holds one.
  *
- * disks is N, the number of disks of the unit's table. copies_len is in bytes; copies_len / 8 is the
- * number of blocks, and no blocks is a request too.
+ * kind is RP_REQUEST with an age of 0, or RP_AGED_REQUEST with any age, 0 too. disks is N, the number of
+ * disks of the unit's table. copies_len is in bytes; copies_len / 8 is the number of blocks, and no blocks
+ * is a request too.
  * Accepted: out begins with the sheet, rp_length of the answer says how long it is, and what is in
  * out beyond that length is what it was.
  * Refused, in this order, with out unchanged:
+ *   3   the kind is neither 2 nor 4
  *   6   the tenancy is 0; copies_len is not a multiple of 8
+ *   15  the kind is 2 and the age above 0
  *   6   disks is not 1 to 64, for no blocks as well; more than 1,024 blocks
  *   7, 6, 16   block by block: 7 no bit is set; 6 more than 8 bits are; 16 one at N or above is
  *   11  the sheet is longer than out_len; rp_place of the answer is its length, which is then enough
  * rp_place of the others is 0: there is no sheet yet.
  */
-uint64_t rp_write_request(uint32_t unit, uint32_t tenancy, uint32_t disks,
+uint64_t rp_write_request(uint32_t kind, uint32_t unit, uint32_t tenancy, uint32_t age, uint32_t disks,
     const uint8_t *copies, size_t copies_len, uint8_t *out, size_t out_len);
 
 /*
@@ -217,7 +231,7 @@ static inline const char *rp_refusal_words(unsigned refusal)
     case RP_RENTED: return "rent while rented";
     case RP_NOT_ABOVE: return "rent not above the last tenancy";
     case RP_NOT_THE_TENANT: return "return while not rented, or of another tenancy";
-    case RP_BAD_AMOUNT: return "a cost, load, delay or plan time is out of its range";
+    case RP_BAD_AMOUNT: return "a cost, load, delay or plan time is out of its range, or a request of kind 2 has an age";
     case RP_BAD_INDEX: return "a disk or block number is out of its range";
     default: return "not a refusal of this version";
     }

@@ -67,14 +67,40 @@ mod tests {
         assert_eq!(line(&input), "plan 7 300 0 0 | |");
     }
 
+    /// Three blocks on disks 0 and 1 of document 01's sample: the load of 2 as it was, less by one, and worked off; then a load of 9.
+    #[test]
+    fn both_kinds_of_request() {
+        let blocks = [3, 2, 0, 1, 2, 0, 1, 2, 0, 1];
+        let three = |head: &[u8]| {
+            let length = [(head.len() + blocks.len()) as u8];
+            line(&[&sample()[..18], &length, head, &blocks].concat())
+        };
+        assert_eq!(three(&[2, 7, 0xAC, 2]), "plan 7 300 3 8 | 0 1 1 | 0 1 2");
+        for (age, time) in [(0, 8), (1, 7), (2, 6), (3, 6)] {
+            let answer = format!("plan 7 300 3 {time} | 0 1 1 | 0 1 2");
+            assert_eq!(three(&[4, 7, 0xAC, 2, age]), answer);
+        }
+        let set = [7, 1, 7, 1, 7, 1, 1, 4, 9, 1];
+        let aged = |age: &[u8]| {
+            let sheet = [&[4, 7, 1], age, &[1, 1, 0]].concat();
+            line(&[&set[..], &[sheet.len() as u8], &sheet].concat())
+        };
+        assert_eq!(aged(&[0]), "plan 7 1 1 14 | 0 | 0");
+        assert_eq!(aged(&[8]), "plan 7 1 1 6 | 0 | 0");
+        assert_eq!(aged(&[9]), "plan 7 1 1 5 | 0 | 0");
+        assert_eq!(aged(&[10]), "plan 7 1 1 5 | 0 | 0");
+        assert_eq!(aged(&shortest(u32::MAX)), "plan 7 1 1 5 | 0 | 0");
+        assert_eq!(aged(&[0x80, 0]), "refused 2");
+    }
+
     #[test]
     fn the_order_of_its_refusals() {
         assert_eq!(line(&[]), "refused 1");
         assert_eq!(line(&[7, 0]), "refused 13");
         assert_eq!(line(&[7, 0x80, 0]), "refused 2");
         assert_eq!(line(&[7, 1]), "refused 1");
-        assert_eq!(line(&[&[7, 1], &shortest(9_230)[..]].concat()), "refused 6");
-        assert_eq!(line(&[&[7, 1], &shortest(9_229)[..]].concat()), "refused 1");
+        assert_eq!(line(&[&[7, 1], &shortest(9_235)[..]].concat()), "refused 6");
+        assert_eq!(line(&[&[7, 1], &shortest(9_234)[..]].concat()), "refused 1");
         assert_eq!(line(&[7, 1, 2, 2, 7]), "refused 3");
         assert_eq!(line(&[7, 1, 2, 1, 8]), "refused 4");
         assert_eq!(line(&[7, 1, 0]), "refused 1");
@@ -82,6 +108,14 @@ mod tests {
         assert_eq!(line(&set), "refused 1");
         assert_eq!(line(&[&set[..], &[1, 9, 0]].concat()), "refused 9");
         assert_eq!(line(&[&set[..], &[1, 9]].concat()), "refused 3");
+        assert_eq!(
+            line(&[&set[..], &shortest(9_235)[..]].concat()),
+            "refused 6"
+        );
+        assert_eq!(
+            line(&[&set[..], &shortest(9_234)[..]].concat()),
+            "refused 1"
+        );
         assert_eq!(
             line(&[&set[..], &[4, 2, 7, 1, 0]].concat()),
             "plan 7 1 0 0 | |"

@@ -86,10 +86,17 @@ fn report(what: &str, found: &Difference, input: &str) -> String {
     format!("{what} differs at line {line}\nours:  {ours}\nother: {other}\ninput: {input}")
 }
 
+/// The last line, if there is no difference: the systematic inputs come besides the count.
+fn same(program: &str, fixed: u64, count: u64) -> String {
+    let all = fixed + count;
+    format!("{program}: {all} inputs the same, {fixed} of them systematic")
+}
+
 /// One process for each input.
 pub fn bench(other: &Other, count: u64, seed: u64) -> Result<String, String> {
     let systematic = bench_inputs::systematic();
-    for index in 0..count {
+    let fixed = systematic.len() as u64;
+    for index in 0..fixed + count {
         let input = bench_input(&systematic, seed, index);
         let ours = format!("{}\n", bench::line(&input));
         if let Some(found) = difference(ours.as_bytes(), &other.output(&input)?) {
@@ -100,7 +107,7 @@ pub fn bench(other: &Other, count: u64, seed: u64) -> Result<String, String> {
             ));
         }
     }
-    Ok(format!("bench: {count} inputs the same"))
+    Ok(same("bench", fixed, count))
 }
 
 /// The input of an index: the systematic ones come first.
@@ -114,8 +121,8 @@ pub fn bench_input(systematic: &[Vec<u8>], seed: u64, index: u64) -> Vec<u8> {
 /// One process for each stream; a call counts as an input.
 pub fn shelf(other: &Other, count: u64, seed: u64) -> Result<String, String> {
     let systematic = shelf_inputs::systematic();
-    let (mut calls, mut streams) = (0, 0);
-    while calls < count {
+    let (mut calls, mut fixed, mut streams) = (0, 0, 0);
+    while streams < systematic.len() as u64 || calls < fixed + count {
         let pieces = shelf_stream(&systematic, seed, streams);
         let input = pieces.concat();
         if let Some(found) = difference(&shelf::lines(&input), &other.output(&input)?) {
@@ -134,10 +141,12 @@ pub fn shelf(other: &Other, count: u64, seed: u64) -> Result<String, String> {
         }
         streams += 1;
         calls += pieces.len().saturating_sub(1).max(1) as u64;
+        if streams <= systematic.len() as u64 {
+            fixed = calls;
+        }
     }
-    Ok(format!(
-        "shelf: {calls} inputs the same (calls, in {streams} streams)"
-    ))
+    let last = same("shelf", fixed, calls - fixed);
+    Ok(format!("{last} (calls, in {streams} streams)"))
 }
 
 /// The stream of an index: the systematic ones come first.
@@ -176,9 +185,10 @@ fn shrink(other: &Other, pieces: shelf_inputs::Stream) -> Result<Vec<u8>, String
 /// Many lines for each process.
 pub fn desk(other: &Other, count: u64, seed: u64) -> Result<String, String> {
     let systematic = desk_inputs::systematic();
+    let fixed = systematic.len() as u64;
     let mut from = 0;
-    while from < count {
-        let to = count.min(from + 1_000);
+    while from < fixed + count {
+        let to = (fixed + count).min(from + 1_000);
         let lines: Vec<String> = (from..to)
             .map(|index| desk_line(&systematic, seed, index))
             .collect();
@@ -194,7 +204,7 @@ pub fn desk(other: &Other, count: u64, seed: u64) -> Result<String, String> {
         }
         from = to;
     }
-    Ok(format!("desk: {count} inputs the same"))
+    Ok(same("desk", fixed, count))
 }
 
 /// The line of an index: the systematic ones come first.
@@ -207,7 +217,15 @@ pub fn desk_line(systematic: &[String], seed: u64, index: u64) -> String {
 
 #[cfg(test)]
 mod tests {
+    use std::cmp::Ordering;
+    use std::collections::BTreeMap;
+
     use super::*;
+    use crate::model::Disk;
+    use crate::number::Reader;
+    use crate::refusal::Refused;
+    use crate::sheets::{read_request, read_settings, Request};
+    use crate::unit::Unit;
 
     #[test]
     fn where_outputs_part() {
@@ -217,20 +235,11 @@ mod tests {
         assert_eq!(difference(b"a\n", b"a\nb\n").unwrap().ours, "(nothing)");
     }
 
-    /// So that the 20,000 inputs of `make compare` are not the systematic ones alone.
-    #[test]
-    fn the_systematic_inputs_leave_room_for_random_ones() {
-        assert!(bench_inputs::systematic().len() < 8_000);
-        assert!(desk_inputs::systematic().len() < 8_000);
-        let streams = shelf_inputs::systematic();
-        let calls: usize = streams.iter().map(|pieces| pieces.len().max(2) - 1).sum();
-        assert!(calls < 12_000, "{calls}");
-    }
-
     #[test]
     fn the_inputs_reach_every_outcome() {
         let systematic = bench_inputs::systematic();
-        let lines: Vec<String> = (0..9_000)
+        let count = systematic.len() as u64 + 6_000;
+        let lines: Vec<String> = (0..count)
             .map(|index| bench::line(&bench_input(&systematic, 1, index)))
             .collect();
         for number in [1, 2, 3, 4, 5, 6, 7, 8, 9, 13, 15, 16] {
@@ -241,6 +250,90 @@ mod tests {
             );
         }
         assert!(lines.iter().filter(|line| line.starts_with("plan")).count() > 3_000);
+    }
+
+    /// An accepted request of a stream: its call, 3 or 5, what it says, and the table last set.
+    type Asked = (u32, Request, Vec<Disk>);
+
+    /// One call of a stream, done; what it asked, if it did.
+    fn asked_by(
+        piece: &[u8],
+        number: u32,
+        unit: &mut Unit,
+        table: &mut Vec<Disk>,
+    ) -> Result<Option<Asked>, Refused> {
+        let mut reader = Reader::new(piece);
+        let call = reader.number()?;
+        match call {
+            1 => unit.rent(reader.number()?)?,
+            2 => {
+                let sheet = sheet_in(&mut reader)?;
+                unit.settings(sheet)?;
+                *table = read_settings(sheet, number, unit.tenancy())?;
+            }
+            4 => unit.give_back(reader.number()?)?,
+            _ => {
+                let room_or_block_and_disk = if call == 3 { 1 } else { 2 };
+                for _ in 0..room_or_block_and_disk {
+                    reader.number()?;
+                }
+                let sheet = sheet_in(&mut reader)?;
+                let request = read_request(sheet, number, unit.tenancy(), unit.disks())?;
+                return Ok(Some((call, request, table.clone())));
+            }
+        }
+        Ok(None)
+    }
+
+    fn sheet_in<'a>(reader: &mut Reader<'a>) -> Result<&'a [u8], Refused> {
+        let length = reader.number()?;
+        reader.take(length as usize)
+    }
+
+    fn asked_in(stream: &shelf_inputs::Stream) -> Vec<Asked> {
+        let number = Reader::new(&stream[0]).number().unwrap();
+        let (mut unit, mut table) = (Unit::new(number), Vec::new());
+        let calls = stream[1..].iter();
+        calls
+            .filter_map(|piece| asked_by(piece, number, &mut unit, &mut table).ok()?)
+            .collect()
+    }
+
+    /// How often the accepted requests of the random streams meet what a kind, an age and a load can be to each other.
+    #[test]
+    fn the_streams_reach_every_age() {
+        let sides = [
+            ("an age below a load", Ordering::Less, 800),
+            ("an age at a load", Ordering::Equal, 600),
+            ("an age above a load", Ordering::Greater, 1_000),
+        ];
+        let mut met: BTreeMap<(u32, &str), u32> = BTreeMap::new();
+        for index in 0..600 {
+            for (call, request, table) in asked_in(&shelf_inputs::stream(1, index)) {
+                let mut meets = |what| *met.entry((call, what)).or_insert(0) += 1;
+                match request.age {
+                    None => meets("kind 2"),
+                    Some(0) => meets("age 0"),
+                    Some(u32::MAX) => meets("the greatest age"),
+                    Some(age) => {
+                        let loads = || table.iter().map(|disk| disk.load).filter(|&load| load > 0);
+                        for (what, side, _) in sides {
+                            if loads().any(|load| age.cmp(&load) == side) {
+                                meets(what);
+                            }
+                        }
+                    }
+                }
+            }
+        }
+        let plain = [("kind 2", 1_500), ("age 0", 500), ("the greatest age", 300)];
+        let wanted = [plain, sides.map(|(what, _, least)| (what, least))].concat();
+        for (what, least) in wanted {
+            for call in [3, 5] {
+                let times = met.get(&(call, what)).copied().unwrap_or(0);
+                assert!(times > least, "call {call}, {what}: {times}");
+            }
+        }
     }
 
     #[test]

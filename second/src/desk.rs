@@ -5,7 +5,7 @@ use std::io::{BufRead, Write};
 use crate::hex;
 use crate::model::Disk;
 use crate::refusal::{Refused, NO_ROOM, RANGE};
-use crate::sheets::{read_plan, write_request, write_settings};
+use crate::sheets::{read_plan, write_request, write_settings, Wanted};
 
 /// What every byte of a lent buffer is before the call.
 const FILL: u8 = 0xA5;
@@ -44,18 +44,20 @@ fn settings(words: &[&str]) -> Option<String> {
 }
 
 fn request(words: &[&str]) -> Option<String> {
-    let &[room, unit, tenancy, disks, copies] = words else {
+    let &[room, kind, unit, tenancy, age, disks, copies] = words else {
         return None;
     };
     let room = room.parse().ok()?;
-    let (unit, tenancy, disks) = (
-        unit.parse().ok()?,
-        tenancy.parse().ok()?,
-        disks.parse().ok()?,
-    );
     let copies = masks(&hex::read(copies)?);
-    let sheet = copies.and_then(|copies| write_request(unit, tenancy, disks, &copies, room));
-    Some(wrote(sheet, room))
+    let wanted = Wanted {
+        kind: kind.parse().ok()?,
+        unit: unit.parse().ok()?,
+        tenancy: tenancy.parse().ok()?,
+        age: age.parse().ok()?,
+        disks: disks.parse().ok()?,
+        copies: copies.as_deref(),
+    };
+    Some(wrote(write_request(&wanted, room), room))
 }
 
 fn plan(words: &[&str]) -> Option<String> {
@@ -114,10 +116,10 @@ fn rows(lists: &[Vec<u8>; 3]) -> Result<Vec<Disk>, Refused> {
     Ok((0..costs.len()).step_by(4).map(row).collect())
 }
 
-/// A list of 64-bit numbers, lowest byte first; a broken list gets 6.
-fn masks(list: &[u8]) -> Result<Vec<u64>, Refused> {
+/// A list of 64-bit numbers, lowest byte first; nothing if it is broken.
+fn masks(list: &[u8]) -> Option<Vec<u64>> {
     if !list.len().is_multiple_of(8) {
-        return Err(RANGE.nowhere());
+        return None;
     }
     let read = |bytes: &[u8]| {
         bytes
@@ -125,7 +127,7 @@ fn masks(list: &[u8]) -> Result<Vec<u64>, Refused> {
             .rev()
             .fold(0, |value, &byte| value << 8 | u64::from(byte))
     };
-    Ok(list.chunks(8).map(read).collect())
+    Some(list.chunks(8).map(read).collect())
 }
 
 /// The answer of a writer and the whole lent buffer after the call.
@@ -161,12 +163,30 @@ mod tests {
         );
         assert_eq!(answer("settings 0 7 5 - - -"), "refused 6 0 -");
         assert_eq!(
-            answer("request 7 7 5 2 0300000000000000"),
+            answer("request 7 2 7 5 0 2 0300000000000000"),
             "wrote 7 02070501020001"
         );
-        assert_eq!(answer("request 4 7 5 2 -"), "wrote 4 02070500");
-        assert_eq!(answer("request 0 7 5 2 0000000000000000"), "refused 7 0 -");
-        assert_eq!(answer("request 0 7 5 2 03"), "refused 6 0 -");
+        assert_eq!(
+            answer("request 9 4 7 5 300 2 0300000000000000"),
+            "wrote 9 040705ac0201020001"
+        );
+        assert_eq!(
+            answer("request 8 4 7 5 0 2 0300000000000000"),
+            "wrote 8 0407050001020001"
+        );
+        assert_eq!(answer("request 4 2 7 5 0 2 -"), "wrote 4 02070500");
+        assert_eq!(
+            answer("request 0 2 7 5 0 2 0000000000000000"),
+            "refused 7 0 -"
+        );
+        assert_eq!(answer("request 0 2 7 5 0 2 03"), "refused 6 0 -");
+        assert_eq!(answer("request 1 3 7 0 1 0 03"), "refused 3 0 a5");
+        assert_eq!(answer("request 1 2 7 0 1 0 03"), "refused 6 0 a5");
+        assert_eq!(answer("request 1 2 7 5 1 0 03"), "refused 6 0 a5");
+        assert_eq!(answer("request 1 2 7 5 1 0 -"), "refused 15 0 a5");
+        assert_eq!(answer("request 1 4 7 5 1 0 -"), "refused 6 0 a5");
+        assert_eq!(answer("request 1 4 7 5 1 1 -"), "refused 11 5 a5");
+        assert_eq!(answer("request 0 7 5 2 -"), "not a line of the desk");
     }
 
     #[test]

@@ -1,4 +1,4 @@
-//! The second program: document 01 once more, by other means, to be held against the first.
+//! The second program: documents 01 and 02 once more, by other means, to be held against the first.
 
 mod bench;
 mod brute;
@@ -16,6 +16,8 @@ mod refusal;
 mod run;
 mod sheets;
 mod shelf;
+#[cfg(test)]
+mod straight;
 mod unit;
 mod vectors;
 

@@ -52,6 +52,12 @@ impl Disk {
         u64::from(self.delay) + u64::from(self.load)
     }
 
+    /// The disk so long after its load was measured: the load less that age, and 0 if the age is larger.
+    pub fn aged(&self, age: u32) -> Disk {
+        let load = self.load.saturating_sub(age);
+        Disk { load, ..*self }
+    }
+
     /// When reading so many blocks ends; an idle disk ends at 0.
     pub fn end(&self, blocks: u64) -> u64 {
         if blocks == 0 {
@@ -120,6 +126,21 @@ mod tests {
             .map(|&time| disk.capacity(time))
             .collect();
         assert_eq!(found, [0, 0, 1, 1, 2]);
+    }
+
+    #[test]
+    fn a_load_is_worked_off_and_no_more() {
+        let disk = Disk {
+            cost: 3,
+            load: 200,
+            delay: 7,
+        };
+        let found = [0, 1, 199, 200, 201, u32::MAX].map(|age| disk.aged(age).end(1));
+        assert_eq!(found, [210, 209, 11, 10, 10, 10]);
+        let found = [0, 1, 199, 200, 201, u32::MAX].map(|age| disk.aged(age).capacity(17));
+        assert_eq!(found, [0, 0, 3, 3, 3, 3]);
+        assert_eq!(disk.aged(0), disk);
+        assert_eq!(disk.aged(50).aged(60), disk.aged(110));
     }
 
     #[test]

@@ -11,12 +11,16 @@
 //!
 //! A sheet is hex, with spaces between its parts; (HEX)*N stands for N times HEX, and A..B for the numbers from A to B in
 //! sheet form. A plan may be written so as well. `calls COUNT SEED TENANCY` are so many generated calls, whole and damaged, to the
-//! unit while it is rented to that tenancy and not set.
+//! unit while it is rented to that tenancy and not set. Of the generated calls at least one in 20 has to get a plan: a seed that
+//! rents the last tenancy early leaves a unit that refuses all the rest.
 
 use crate::hex;
 use crate::inputs;
 use crate::number;
 use crate::shelf;
+
+/// Of so many generated calls at least one gets a plan.
+const CALLS_A_PLAN: usize = 20;
 
 /// The stream of bytes of a run, or the first call that this program answers with another line.
 pub fn stream(text: &str) -> Result<Vec<u8>, String> {
@@ -88,6 +92,18 @@ impl Run {
                 found.len(),
                 self.told.len()
             ));
+        }
+        self.hold_generated(&found)
+    }
+
+    /// The generated calls have plans enough.
+    fn hold_generated(&self, found: &[&str]) -> Result<(), String> {
+        let generated = || (self.told.iter().zip(found)).filter(|(told, _)| told.is_none());
+        let calls = generated().count();
+        let plans = generated().filter(|(_, line)| line.starts_with("plan"));
+        let plans = plans.count();
+        if plans < calls / CALLS_A_PLAN {
+            return Err(format!("{plans} plans for {calls} generated calls"));
         }
         Ok(())
     }
@@ -184,6 +200,18 @@ mod tests {
             stream(run),
             Err("rent 300 -> refused 12 0\nfound: rented".to_string())
         );
+    }
+
+    /// Of these seeds 3 rents the last tenancy early.
+    #[test]
+    fn generated_calls_have_plans() {
+        let run = |seed| {
+            stream(&format!(
+                "unit 7\nrent 302 -> rented\ncalls 4000 {seed} 302\n"
+            ))
+        };
+        assert!(run(2).is_ok());
+        assert_eq!(run(3), Err("58 plans for 4000 generated calls".to_string()));
     }
 
     #[test]

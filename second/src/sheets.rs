@@ -7,12 +7,28 @@ use crate::refusal::*;
 pub const SETTINGS: u32 = 1;
 pub const REQUEST: u32 = 2;
 pub const PLAN: u32 = 3;
-pub const LONGEST_REQUEST: u32 = 9_229;
+pub const AGED_REQUEST: u32 = 4;
+pub const LONGEST_REQUEST: u32 = 9_234;
 pub const LONGEST_PLAN: usize = 2_964;
 
-/// Kind, unit and tenancy; tenancy 0 stands for none, and then every number gets 5.
-fn read_head(reader: &mut Reader, kind: u32, unit: u32, tenancy: u32) -> Result<(), Refused> {
-    if reader.number()? != kind {
+/// A read request: the copies of each block, and the age if the sheet is of the kind that has one.
+#[derive(Clone, Debug, PartialEq, Eq)]
+pub struct Request {
+    pub age: Option<u32>,
+    pub copies: Vec<u64>,
+}
+
+impl Request {
+    /// The microseconds since the settings were measured.
+    pub fn age(&self) -> u32 {
+        self.age.unwrap_or(0)
+    }
+}
+
+/// Kind, unit and tenancy, and which of the kinds it is; tenancy 0 stands for none, and then every number gets 5.
+fn read_head(reader: &mut Reader, kinds: &[u32], unit: u32, tenancy: u32) -> Result<u32, Refused> {
+    let kind = reader.number()?;
+    if !kinds.contains(&kind) {
         return Err(reader.refuse(KIND));
     }
     if reader.number()? != unit {
@@ -21,7 +37,7 @@ fn read_head(reader: &mut Reader, kind: u32, unit: u32, tenancy: u32) -> Result<
     if reader.number()? != tenancy || tenancy == 0 {
         return Err(reader.refuse(OTHER_TENANCY));
     }
-    Ok(())
+    Ok(kind)
 }
 
 fn write_head(kind: u32, unit: u32, tenancy: u32) -> Vec<u8> {
@@ -43,7 +59,7 @@ fn read_rising(reader: &mut Reader, high: u32, before: Option<u32>) -> Result<u3
 
 pub fn read_settings(sheet: &[u8], unit: u32, tenancy: u32) -> Result<Vec<Disk>, Refused> {
     let mut reader = Reader::new(sheet);
-    read_head(&mut reader, SETTINGS, unit, tenancy)?;
+    read_head(&mut reader, &[SETTINGS], unit, tenancy)?;
     let count = reader.within(1, MOST_DISKS, RANGE)?;
     let mut disks = Vec::new();
     for _ in 0..count {
@@ -56,24 +72,24 @@ pub fn read_settings(sheet: &[u8], unit: u32, tenancy: u32) -> Result<Vec<Disk>,
     Ok(disks)
 }
 
-/// The copies of each block; a table of 0 disks stands for no settings yet.
-pub fn read_request(
-    sheet: &[u8],
-    unit: u32,
-    tenancy: u32,
-    disks: u32,
-) -> Result<Vec<u64>, Refused> {
+/// A table of 0 disks stands for no settings yet, which is refused before the age.
+pub fn read_request(sheet: &[u8], unit: u32, tenancy: u32, disks: u32) -> Result<Request, Refused> {
     let mut reader = Reader::new(sheet);
-    read_head(&mut reader, REQUEST, unit, tenancy)?;
+    let kind = read_head(&mut reader, &[REQUEST, AGED_REQUEST], unit, tenancy)?;
     if disks == 0 {
         return Err(reader.refuse_next(NO_SETTINGS));
     }
+    let age = if kind == AGED_REQUEST {
+        Some(reader.number()?)
+    } else {
+        None
+    };
     let count = reader.within(0, MOST_BLOCKS, RANGE)?;
     let copies = (0..count)
         .map(|_| read_copies(&mut reader, disks))
         .collect::<Result<_, _>>()?;
     reader.finish()?;
-    Ok(copies)
+    Ok(Request { age, copies })
 }
 
 fn read_copies(reader: &mut Reader, disks: u32) -> Result<u64, Refused> {
@@ -95,7 +111,7 @@ fn read_copies(reader: &mut Reader, disks: u32) -> Result<u64, Refused> {
 
 pub fn read_plan(sheet: &[u8], unit: u32, tenancy: u32) -> Result<Plan, Refused> {
     let mut reader = Reader::new(sheet);
-    read_head(&mut reader, PLAN, unit, tenancy)?;
+    read_head(&mut reader, &[PLAN], unit, tenancy)?;
     let count = reader.within(0, MOST_BLOCKS, RANGE)?;
     let some = count.min(1);
     let time = reader.within(some, some * MOST_TIME, VALUE)?;
@@ -167,20 +183,37 @@ pub fn write_settings(
     fitting(out, room)
 }
 
-/// The desk's request writer, which is told the number of disks.
-pub fn write_request(
-    unit: u32,
-    tenancy: u32,
-    disks: u32,
-    copies: &[u64],
-    room: usize,
-) -> Result<Vec<u8>, Refused> {
+/// What the desk's request writer is told: the copies of each block, or nothing where their list is broken.
+pub struct Wanted<'a> {
+    pub kind: u32,
+    pub unit: u32,
+    pub tenancy: u32,
+    pub age: u32,
+    pub disks: u32,
+    pub copies: Option<&'a [u64]>,
+}
+
+/// The desk's request writer: the kind first, tenancy and list, an age that the kind has no place for, then the rest.
+pub fn write_request(wanted: &Wanted, room: usize) -> Result<Vec<u8>, Refused> {
+    let &Wanted {
+        kind, tenancy, age, ..
+    } = wanted;
+    if kind != REQUEST && kind != AGED_REQUEST {
+        return Err(KIND.nowhere());
+    }
     in_range(tenancy, 1, u32::MAX, RANGE)?;
-    in_range(disks, 1, MOST_DISKS, RANGE)?;
-    let mut out = write_head(REQUEST, unit, tenancy);
+    let copies = wanted.copies.ok_or(RANGE.nowhere())?;
+    if kind == REQUEST && age > 0 {
+        return Err(VALUE.nowhere());
+    }
+    in_range(wanted.disks, 1, MOST_DISKS, RANGE)?;
+    let mut out = write_head(kind, wanted.unit, tenancy);
+    if kind == AGED_REQUEST {
+        write(&mut out, age);
+    }
     write(&mut out, count_in_range(copies.len(), 0, MOST_BLOCKS)?);
     for &block in copies {
-        write_copies(&mut out, disks, block)?;
+        write_copies(&mut out, wanted.disks, block)?;
     }
     fitting(out, room)
 }
@@ -217,8 +250,18 @@ mod tests {
         };
         let settings = write_settings(u32::MAX, u32::MAX, &[row; 64], 652).unwrap();
         assert_eq!(settings.len(), 652);
-        let request = write_request(u32::MAX, u32::MAX, 64, &[0xFF << 56; 1_024], 9_229).unwrap();
-        assert_eq!(request.len(), 9_229);
+        for (kind, age, length) in [(REQUEST, 0, 9_229), (AGED_REQUEST, u32::MAX, 9_234)] {
+            let wanted = Wanted {
+                kind,
+                unit: u32::MAX,
+                tenancy: u32::MAX,
+                age,
+                disks: 64,
+                copies: Some(&[0xFF << 56; 1_024]),
+            };
+            assert_eq!(write_request(&wanted, length).unwrap().len(), length);
+            assert_eq!(write_request(&wanted, length - 1), Err(NO_ROOM.at(length)));
+        }
         let plan = Plan {
             time: MOST_TIME,
             disks: vec![63; 1_024],
@@ -245,10 +288,22 @@ mod tests {
                 Ok(case.disks.clone())
             );
             let disks = case.disks.len() as u32;
-            let request = write_request(unit, tenancy, disks, &case.copies, 9_229).unwrap();
+            let age = whole::age(&mut random, &case.disks);
+            let wanted = Wanted {
+                kind: if age.is_some() { 4 } else { 2 },
+                unit,
+                tenancy,
+                age: age.unwrap_or(0),
+                disks,
+                copies: Some(&case.copies),
+            };
+            let request = write_request(&wanted, 9_234).unwrap();
             assert_eq!(
                 read_request(&request, unit, tenancy, disks),
-                Ok(case.copies.clone())
+                Ok(Request {
+                    age,
+                    copies: case.copies.clone()
+                })
             );
             if case.copies.len() < 100 {
                 let plan = planner::plan(&case.disks, &case.copies);
@@ -256,6 +311,86 @@ mod tests {
                 assert_eq!(read_plan(&sheet, unit, tenancy), Ok(plan));
             }
         }
+    }
+
+    const WANTED: Wanted = Wanted {
+        kind: 2,
+        unit: 7,
+        tenancy: 1,
+        age: 0,
+        disks: 2,
+        copies: Some(&[3]),
+    };
+
+    /// Faults in the order of the checks: each of them stands before all that come after it.
+    #[test]
+    fn the_request_writer_checks_kind_then_tenancy_and_list_then_age() {
+        type Fault = fn(&mut Wanted);
+        let faults: [(Fault, Refused); 7] = [
+            (|wanted| wanted.kind = 3, KIND.at(0)),
+            (|wanted| wanted.tenancy = 0, RANGE.at(0)),
+            (|wanted| wanted.copies = None, RANGE.at(0)),
+            (|wanted| wanted.age = 1, VALUE.at(0)),
+            (|wanted| wanted.disks = 65, RANGE.at(0)),
+            (
+                |wanted| wanted.copies = wanted.copies.map(|_| &[0; 1_025][..]),
+                RANGE.at(0),
+            ),
+            (
+                |wanted| wanted.copies = wanted.copies.map(|_| &[0][..]),
+                NO_COPY.at(0),
+            ),
+        ];
+        for (at, (_, refused)) in faults.iter().enumerate() {
+            let mut wanted = WANTED;
+            for (fault, _) in faults[at..].iter().rev() {
+                fault(&mut wanted);
+            }
+            assert_eq!(write_request(&wanted, 0), Err(*refused));
+        }
+        for kind in [0, 1, 3, 5, 6, 7, 8, u32::MAX] {
+            let wanted = Wanted { kind, ..WANTED };
+            assert_eq!(write_request(&wanted, 99), Err(KIND.at(0)));
+        }
+        for age in [0, 1, u32::MAX] {
+            let wanted = Wanted {
+                kind: 4,
+                age,
+                ..WANTED
+            };
+            let sheet = write_request(&wanted, 99).unwrap();
+            assert_eq!(sheet[..3], [4, 7, 1]);
+            assert_eq!(read_request(&sheet, 7, 1, 2).unwrap().age, Some(age));
+        }
+    }
+
+    #[test]
+    fn an_age_stands_after_the_tenancy_and_after_10() {
+        let read = |sheet: &[u8], disks| read_request(sheet, 7, 5, disks);
+        assert_eq!(read(&[4, 7, 5], 0), Err(NO_SETTINGS.at(3)));
+        assert_eq!(read(&[4, 7, 5, 0x80, 0], 0), Err(NO_SETTINGS.at(3)));
+        assert_eq!(read(&[4, 7, 5], 2), Err(ENDS.at(3)));
+        assert_eq!(read(&[4, 7, 5, 0x80, 0], 2), Err(FORM.at(3)));
+        assert_eq!(read(&[4, 7, 5, 0x80], 2), Err(ENDS.at(4)));
+        assert_eq!(read(&[4, 7, 5, 9], 2), Err(ENDS.at(4)));
+        assert_eq!(
+            read(&[4, 7, 5, 0xFF, 0xFF, 0xFF, 0xFF, 0x10], 2),
+            Err(FORM.at(3))
+        );
+        assert_eq!(
+            read(&[4, 7, 5, 0xFF, 0xFF, 0xFF, 0xFF, 0x0F, 0], 2)
+                .unwrap()
+                .age,
+            Some(u32::MAX)
+        );
+        assert_eq!(read(&[4, 7, 6, 9, 0], 2), Err(OTHER_TENANCY.at(2)));
+        assert_eq!(read(&[4, 8, 6, 9, 0], 2), Err(OTHER_UNIT.at(1)));
+        assert_eq!(read(&[5, 8, 6, 9, 0], 2), Err(KIND.at(0)));
+        assert_eq!(read(&[4, 7, 5, 0, 1, 1, 2], 2), Err(NO_SUCH.at(6)));
+        let plain = read(&[2, 7, 5, 0], 2).unwrap();
+        let aged = read(&[4, 7, 5, 0, 0], 2).unwrap();
+        assert_eq!((plain.age(), aged.age()), (0, 0));
+        assert_ne!(plain, aged);
     }
 
     #[test]
@@ -280,7 +415,12 @@ mod tests {
         assert_eq!(write(1, &[row(1, 0, 0)], 6), Err(NO_ROOM.at(7)));
         assert_eq!(write(1, &[row(1, 0, 0)], 7), Ok(7));
         let write = |disks, copies: &[u64], room| {
-            write_request(7, 1, disks, copies, room).map(|sheet| sheet.len())
+            let wanted = Wanted {
+                disks,
+                copies: Some(copies),
+                ..WANTED
+            };
+            write_request(&wanted, room).map(|sheet| sheet.len())
         };
         assert_eq!(write(0, &[], 10), Err(RANGE.at(0)));
         assert_eq!(write(65, &[0], 10), Err(RANGE.at(0)));

@@ -168,8 +168,24 @@ mod tests {
         assert_eq!(text(&[7, 5]), "stopped 1\n");
         assert_eq!(text(&[7, 5, 0, 0x80, 0]), "stopped 2\n");
         assert_eq!(text(&[7, 5, 0, 0, 2, 1]), "stopped 1\n");
-        assert_eq!(text(&[7, 5, 0, 0, 0x8E, 0x48]), "stopped 6\n");
+        assert_eq!(text(&[7, 5, 0, 0, 0x93, 0x48]), "stopped 6\n");
         assert_eq!(text(&[7, 5, 0, 0, 0]), "refused 1 0\n");
+    }
+
+    #[test]
+    fn requests_with_an_age() {
+        let set = [7, 1, 5, 2, 7, 1, 7, 5, 1, 4, 9, 1];
+        let calls = [
+            [3, 99, 7, 4, 7, 5, 8, 1, 1, 0].as_slice(),
+            &[3, 99, 6, 4, 7, 5, 8, 1, 1],
+            &[3, 99, 3, 4, 7, 5],
+            &[5, 0, 0, 7, 4, 7, 5, 9, 1, 1, 0],
+            &[3, 99, 1, 5],
+            &[2, 1, 4],
+        ];
+        let answer = "rented\nset\nplan 0307050106000100\nrefused 1 6\nrefused 1 3\nreason 5 0\n\
+            refused 3 0\nrefused 3 0\n";
+        assert_eq!(text(&[&set[..], &calls.concat()].concat()), answer);
     }
 
     #[test]
@@ -182,8 +198,10 @@ mod tests {
         assert_eq!(text(&[7, 0]), "stopped 3\n");
         assert_eq!(text(&[7, 1]), "stopped 1\n");
         assert_eq!(text(&[7, 1, 5, 2, 2, 1]), "rented\nstopped 1\n");
-        assert_eq!(text(&[7, 2, 0x8E, 0x48]), "stopped 6\n");
-        assert_eq!(text(&[7, 2, 0x8D, 0x48]), "stopped 1\n");
+        assert_eq!(text(&[7, 2, 0x93, 0x48]), "stopped 6\n");
+        assert_eq!(text(&[7, 2, 0x92, 0x48]), "stopped 1\n");
+        assert_eq!(text(&[7, 3, 9, 0x93, 0x48]), "stopped 6\n");
+        assert_eq!(text(&[7, 3, 9, 0x92, 0x48]), "stopped 1\n");
         assert_eq!(text(&[7, 3, 0x81, 0x20]), "stopped 6\n");
         assert_eq!(text(&[7, 3, 0x80, 0x20]), "stopped 1\n");
         assert_eq!(text(&[7, 3, 0x80, 0x20, 0]), "refused 1 0\n");

@@ -3,7 +3,7 @@
 use crate::model::{Disk, Reason};
 use crate::planner;
 use crate::refusal::{Refused, NOT_ABOVE, NOT_RETURNED, NO_SUCH, RENTED};
-use crate::sheets::{read_request, read_settings, write_plan};
+use crate::sheets::{read_request, read_settings, write_plan, Request};
 
 /// A unit; an empty table means no settings yet.
 #[derive(Clone, Debug, PartialEq, Eq)]
@@ -54,21 +54,28 @@ impl Unit {
         Ok(())
     }
 
+    /// An accepted request, and the table with the loads that are left at its age.
+    fn asked(&self, sheet: &[u8]) -> Result<(Vec<Disk>, Request), Refused> {
+        let request = read_request(sheet, self.number, self.tenancy(), self.disks())?;
+        let aged = self.disks.iter().map(|disk| disk.aged(request.age()));
+        Ok((aged.collect(), request))
+    }
+
     /// The plan sheet, if it fits the room.
     pub fn request(&self, sheet: &[u8], room: usize) -> Result<Vec<u8>, Refused> {
-        let copies = read_request(sheet, self.number, self.tenancy(), self.disks())?;
-        let plan = planner::plan(&self.disks, &copies);
+        let (disks, request) = self.asked(sheet)?;
+        let plan = planner::plan(&disks, &request.copies);
         write_plan(self.number, self.tenancy(), &plan, room)
     }
 
     /// Why the plan of a request reads a block from a disk, or does not; after the request's own refusals 16.
     pub fn reason(&self, sheet: &[u8], block: u32, disk: u32) -> Result<Reason, Refused> {
-        let copies = read_request(sheet, self.number, self.tenancy(), self.disks())?;
-        if block as usize >= copies.len() || disk >= self.disks() {
+        let (disks, request) = self.asked(sheet)?;
+        if block as usize >= request.copies.len() || disk >= self.disks() {
             return Err(NO_SUCH.nowhere());
         }
         let (block, disk) = (block as usize, disk as usize);
-        Ok(planner::reason(&self.disks, &copies, block, disk))
+        Ok(planner::reason(&disks, &request.copies, block, disk))
     }
 
     pub fn give_back(&mut self, tenancy: u32) -> Result<(), Refused> {
@@ -151,6 +158,38 @@ mod tests {
         assert_eq!(unit.reason(&[2, 7, 5, 0], 0, 0), Err(NO_SUCH.at(0)));
         assert_eq!(unit.reason(&[2, 7, 5, 0, 0], 0, 0), Err(TRAILING.at(4)));
         assert_eq!(unit.reason(&p4[..8], 9, 9), Err(ENDS.at(8)));
+    }
+
+    /// Disk 0: cost 4, load 0, delay 1. Disk 1: cost 3, load 100, delay 0. A block on disk 1, and one on both.
+    #[test]
+    fn a_load_is_less_by_the_age_of_the_request() {
+        let mut unit = Unit::new(7);
+        let aged = |age: u8| [4, 7, 5, age, 2, 1, 1, 2, 0, 1];
+        assert_eq!(unit.request(&aged(0), 99), Err(OTHER_TENANCY.at(2)));
+        unit.rent(5).unwrap();
+        assert_eq!(unit.request(&aged(0), 99), Err(NO_SETTINGS.at(3)));
+        unit.settings(&[1, 7, 5, 2, 4, 0, 1, 3, 100, 0]).unwrap();
+        let before = unit.clone();
+        let plan = |age, time, disks: [u8; 2], short: &[u8]| {
+            let sheet = [&[3, 7, 5, 2, time], &disks[..], &[short.len() as u8], short].concat();
+            assert_eq!(unit.request(&aged(age), 99), Ok(sheet), "{age}");
+        };
+        plan(0, 103, [1, 0], &[0]);
+        plan(1, 102, [1, 0], &[0]);
+        plan(97, 6, [1, 0], &[0]);
+        plan(98, 5, [1, 0], &[0, 1]);
+        plan(99, 5, [1, 0], &[0, 1]);
+        plan(100, 5, [1, 0], &[0, 1]);
+        plan(101, 5, [1, 0], &[0, 1]);
+        assert_eq!(
+            unit.request(&[2, 7, 5, 2, 1, 1, 2, 0, 1], 99),
+            unit.request(&aged(0), 99)
+        );
+        assert_eq!(unit.reason(&aged(0), 1, 1), Ok(Reason::Later(106)));
+        assert_eq!(unit.reason(&aged(99), 1, 1), Ok(Reason::Later(7)));
+        assert_eq!(unit.reason(&aged(100), 1, 1), Ok(Reason::Later(6)));
+        assert_eq!(unit.reason(&aged(101), 1, 1), Ok(Reason::Later(6)));
+        assert_eq!(unit, before);
     }
 
     #[test]

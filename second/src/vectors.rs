@@ -2,7 +2,7 @@
 
 use crate::hex;
 use crate::model::{disks_of, Disk, Plan};
-use crate::sheets::{read_plan, read_request, read_settings};
+use crate::sheets::{read_plan, read_request, read_settings, Request};
 
 /// How many vectors hold, or the first that does not.
 pub fn run(text: &str) -> Result<String, String> {
@@ -35,7 +35,7 @@ fn outcome(vector: &str) -> Option<String> {
             read_settings(&sheet, unit, tenancy).map(|disks| show_disks(&disks))
         }
         ("request", &[unit, tenancy, disks]) => {
-            read_request(&sheet, unit, tenancy, disks).map(|copies| show_copies(&copies))
+            read_request(&sheet, unit, tenancy, disks).map(|request| show_request(&request))
         }
         ("plan", &[unit, tenancy]) => read_plan(&sheet, unit, tenancy).map(|plan| show_plan(&plan)),
         _ => return None,
@@ -60,9 +60,16 @@ fn show_disks(disks: &[Disk]) -> String {
     words.join(" ")
 }
 
-fn show_copies(copies: &[u64]) -> String {
-    let mut words = vec![copies.len().to_string()];
-    words.extend(copies.iter().map(|&block| join(&disks_of(block), ",")));
+fn show_request(request: &Request) -> String {
+    let mut words: Vec<String> = Vec::new();
+    words.extend(request.age.map(|age| format!("age {age}")));
+    words.push(request.copies.len().to_string());
+    words.extend(
+        request
+            .copies
+            .iter()
+            .map(|&block| join(&disks_of(block), ",")),
+    );
     words.join(" ")
 }
 

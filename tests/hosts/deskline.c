@@ -15,7 +15,7 @@
 #include "rippleplank.h"
 #include "say.h"
 
-enum { FILL = 0xA5, GUARD = 32, MOST_ROOM = 1 << 20 };
+enum { FILL = 0xA5, GUARD = 32, MOST_ROOM = 1 << 20, MOST_WORDS = 8 };
 
 /* A lent buffer with guards before and after it. */
 struct lent {
@@ -104,18 +104,18 @@ static bool settings(const struct span *words)
     return good;
 }
 
-/* ROOM UNIT TENANCY N COPIES */
+/* ROOM KIND UNIT TENANCY AGE N COPIES */
 static bool request(const struct span *words)
 {
-    uint32_t room, unit, tenancy, disks;
+    uint32_t room, kind, unit, tenancy, age, disks;
     uint8_t *copies = NULL;
     size_t len;
-    bool good = room_of(words[0], &room) && number_of(words[1], &unit)
-        && number_of(words[2], &tenancy)
-        && number_of(words[3], &disks) && list_of(words[4], &copies, &len);
+    bool good = room_of(words[0], &room) && number_of(words[1], &kind) && number_of(words[2], &unit)
+        && number_of(words[3], &tenancy) && number_of(words[4], &age) && number_of(words[5], &disks)
+        && list_of(words[6], &copies, &len);
     if (good) {
         struct lent out = lend(room);
-        uint64_t answer = rp_write_request(unit, tenancy, disks, copies, len, out.at, out.len);
+        uint64_t answer = rp_write_request(kind, unit, tenancy, age, disks, copies, len, out.at, out.len);
         show_wrote(answer, &out);
     }
     free(copies);
@@ -150,13 +150,13 @@ static bool plan(const struct span *words)
     return good;
 }
 
-/* The words of a line, of which at most seven are kept; gives how many there are. */
-static size_t split(struct span line, struct span words[7])
+/* The words of a line, of which no more than a line can have are kept; gives how many there are. */
+static size_t split(struct span line, struct span words[MOST_WORDS])
 {
     struct span word;
     size_t count = 0;
     while (span_next(&line, " ", &word)) {
-        if (count < 7)
+        if (count < MOST_WORDS)
             words[count] = word;
         count++;
     }
@@ -170,11 +170,11 @@ static bool is(struct span word, const char *name)
 
 static bool answer_line(struct span line)
 {
-    struct span words[7];
+    struct span words[MOST_WORDS];
     size_t count = split(line, words);
     if (count == 7 && is(words[0], "settings"))
         return settings(words + 1);
-    if (count == 6 && is(words[0], "request"))
+    if (count == 8 && is(words[0], "request"))
         return request(words + 1);
     if (count == 6 && is(words[0], "plan"))
         return plan(words + 1);

@@ -2,10 +2,10 @@
  * The three exported functions from C, with guards around every lent buffer. Each test is a line `ok NAME` or
  * `FAILED NAME: why`, and the last line is `end of the tests`; the status is 1 if any failed.
  *
- * The bytes and numbers expected are document 01's samples, or follow from its ranges and the places of document 02 by
- * hand. A call is made three times, on buffers that stand: between guards, where every byte is held against what it
- * has to be; in blocks of memory of the exact length, where the address sanitizer and valgrind see a byte too far; and
- * right before a closed page, where a byte too far, read or written, ends the program.
+ * The bytes and numbers expected are document 01's samples, or follow from its ranges and from document 02 by hand. A
+ * call is made three times, on buffers that stand: between guards, where every byte is held against what it has to be;
+ * in blocks of memory of the exact length, where the address sanitizer and valgrind see a byte too far; and right before
+ * a closed page, where a byte too far, read or written, ends the program.
  */
 #define _DEFAULT_SOURCE
 #include <stdbool.h>
@@ -325,14 +325,14 @@ static void settings_lengths(void)
 
 static struct list copies;
 
-static void request(const char *name, uint32_t unit, uint32_t tenancy, uint32_t disks, size_t room, uint64_t refusal,
-    const struct list *sheet)
+static void request_of(const char *name, uint32_t kind, uint32_t unit, uint32_t tenancy, uint32_t age, uint32_t disks,
+    size_t room, uint64_t refusal, const struct list *sheet)
 {
     struct lent c = lend_list(&copies), out = lend_room(room);
     uint64_t expected = sheet == NULL ? refusal : (uint64_t)sheet->len * 4294967296u;
     const char *why = NULL;
     for (int i = 0; i < PLACES; i++)
-        if (rp_write_request(unit, tenancy, disks, c.at[i], c.len, out.at[i], out.len) != expected)
+        if (rp_write_request(kind, unit, tenancy, age, disks, c.at[i], c.len, out.at[i], out.len) != expected)
             why = "another answer";
     if (why == NULL && !(sheet == NULL ? is_unchanged(&out) : holds(&out, sheet->at, sheet->len)))
         why = "another buffer";
@@ -341,6 +341,13 @@ static void request(const char *name, uint32_t unit, uint32_t tenancy, uint32_t 
     verdict(name, why);
     give_back(&c);
     give_back(&out);
+}
+
+/* One without an age. */
+static void request(const char *name, uint32_t unit, uint32_t tenancy, uint32_t disks, size_t room, uint64_t refusal,
+    const struct list *sheet)
+{
+    request_of(name, RP_REQUEST, unit, tenancy, 0, disks, room, refusal, sheet);
 }
 
 /* The copies of some blocks; `blocks` of them. */
@@ -357,18 +364,18 @@ static void request_sample(void)
     set_copies((uint64_t[]){ 3, 3, 3, 6 }, 4);
     request("request: the document's sample, exact fit", 7, 300, 3, 17, 0, sheet);
     request("request: one byte more stays as it was", 7, 300, 3, 18, 0, sheet);
-    request("request: a long buffer stays as it was beyond", 7, 300, 64, 9229, 0, sheet);
+    request("request: a long buffer stays as it was beyond", 7, 300, 64, 9234, 0, sheet);
     request("request: one byte less is 11, and 17 were needed", 7, 300, 3, 16, needs(17), NULL);
     request("request: no room is 11, and 17 were needed", 7, 300, 3, 0, needs(17), NULL);
-    request("request: tenancy 0 is 6", 7, 0, 3, 9229, 6, NULL);
+    request("request: tenancy 0 is 6", 7, 0, 3, 9234, 6, NULL);
     request("request: tenancy 0 is 6 before 11", 7, 0, 3, 0, 6, NULL);
-    request("request: N 0 is 6", 7, 300, 0, 9229, 6, NULL);
-    request("request: N 65 is 6", 7, 300, 65, 9229, 6, NULL);
-    request("request: N 4,294,967,295 is 6", 7, 300, 4294967295u, 9229, 6, NULL);
-    request("request: a disk at N is 16", 7, 300, 2, 9229, 16, NULL);
+    request("request: N 0 is 6", 7, 300, 0, 9234, 6, NULL);
+    request("request: N 65 is 6", 7, 300, 65, 9234, 6, NULL);
+    request("request: N 4,294,967,295 is 6", 7, 300, 4294967295u, 9234, 6, NULL);
+    request("request: a disk at N is 16", 7, 300, 2, 9234, 16, NULL);
     request("request: a disk at N is 16 before 11", 7, 300, 2, 0, 16, NULL);
-    request("request: tenancy 0 is 6 before a disk at N", 7, 0, 2, 9229, 6, NULL);
-    request("request: N 0 is 6 before a disk at N", 7, 300, 0, 9229, 6, NULL);
+    request("request: tenancy 0 is 6 before a disk at N", 7, 0, 2, 9234, 6, NULL);
+    request("request: N 0 is 6 before a disk at N", 7, 300, 0, 9234, 6, NULL);
 }
 
 static void request_no_blocks(void)
@@ -378,9 +385,9 @@ static void request_no_blocks(void)
     request("request: no blocks, exact fit", 7, 300, 1, 5, 0, sheet);
     request("request: no blocks, 64 disks", 7, 300, 64, 6, 0, sheet);
     request("request: no blocks, one byte less is 11", 7, 300, 1, 4, needs(5), NULL);
-    request("request: no blocks, N 0 is 6", 7, 300, 0, 9229, 6, NULL);
-    request("request: no blocks, N 65 is 6", 7, 300, 65, 9229, 6, NULL);
-    request("request: no blocks, tenancy 0 is 6", 7, 0, 1, 9229, 6, NULL);
+    request("request: no blocks, N 0 is 6", 7, 300, 0, 9234, 6, NULL);
+    request("request: no blocks, N 65 is 6", 7, 300, 65, 9234, 6, NULL);
+    request("request: no blocks, tenancy 0 is 6", 7, 0, 1, 9234, 6, NULL);
     request("request: no blocks, the largest unit and tenancy", 4294967295u, 4294967295u, 1, 12, 0,
         sheet_of("02 FF FF FF FF 0F FF FF FF FF 0F 00"));
 }
@@ -389,31 +396,31 @@ static void request_copies(void)
 {
     set_copies((uint64_t[]){ 0x8000000000000000u }, 1);
     request("request: disk 63 of 64", 7, 300, 64, 7, 0, sheet_of("02 07 AC 02 01 01 3F"));
-    request("request: disk 63 of 63 is 16", 7, 300, 63, 9229, 16, NULL);
+    request("request: disk 63 of 63 is 16", 7, 300, 63, 9234, 16, NULL);
     set_copies((uint64_t[]){ 0x8000000000000001u }, 1);
     request("request: the first and the last disk", 7, 300, 64, 8, 0, sheet_of("02 07 AC 02 01 02 00 3F"));
     set_copies((uint64_t[]){ 0x8040201008040201u }, 1);
     request("request: eight copies, one in each byte", 7, 300, 64, 14, 0,
         sheet_of("02 07 AC 02 01 08 00 09 12 1B 24 2D 36 3F"));
     set_copies((uint64_t[]){ 0x8040201008040203u }, 1);
-    request("request: nine copies is 6", 7, 300, 64, 9229, 6, NULL);
-    request("request: nine copies, one of them at N, is 6 before 16", 7, 300, 63, 9229, 6, NULL);
-    request("request: nine copies, eight of them at N or above, is 6 before 16", 7, 300, 1, 9229, 6, NULL);
+    request("request: nine copies is 6", 7, 300, 64, 9234, 6, NULL);
+    request("request: nine copies, one of them at N, is 6 before 16", 7, 300, 63, 9234, 6, NULL);
+    request("request: nine copies, eight of them at N or above, is 6 before 16", 7, 300, 1, 9234, 6, NULL);
     set_copies((uint64_t[]){ UINT64_MAX }, 1);
-    request("request: all 64 copies is 6", 7, 300, 64, 9229, 6, NULL);
+    request("request: all 64 copies is 6", 7, 300, 64, 9234, 6, NULL);
     set_copies((uint64_t[]){ 1, 0 }, 2);
-    request("request: no copies is 7", 7, 300, 3, 9229, 7, NULL);
+    request("request: no copies is 7", 7, 300, 3, 9234, 7, NULL);
     request("request: no copies is 7 before 11", 7, 300, 3, 0, 7, NULL);
-    request("request: N 0 is 6 before 7", 7, 300, 0, 9229, 6, NULL);
-    request("request: tenancy 0 is 6 before 7", 7, 0, 3, 9229, 6, NULL);
+    request("request: N 0 is 6 before 7", 7, 300, 0, 9234, 6, NULL);
+    request("request: tenancy 0 is 6 before 7", 7, 0, 3, 9234, 6, NULL);
     set_copies((uint64_t[]){ 0, 8 }, 2);
-    request("request: the first block's 7 before the second's 16", 7, 300, 3, 9229, 7, NULL);
+    request("request: the first block's 7 before the second's 16", 7, 300, 3, 9234, 7, NULL);
     set_copies((uint64_t[]){ 8, 0 }, 2);
-    request("request: the first block's 16 before the second's 7", 7, 300, 3, 9229, 16, NULL);
+    request("request: the first block's 16 before the second's 7", 7, 300, 3, 9234, 16, NULL);
     set_copies((uint64_t[]){ 8, 511 }, 2);
-    request("request: the first block's 16 before the second's 6", 7, 300, 3, 9229, 16, NULL);
+    request("request: the first block's 16 before the second's 6", 7, 300, 3, 9234, 16, NULL);
     set_copies((uint64_t[]){ 511, 8 }, 2);
-    request("request: the first block's 6 before the second's 16", 7, 300, 3, 9229, 6, NULL);
+    request("request: the first block's 6 before the second's 16", 7, 300, 3, 9234, 6, NULL);
 }
 
 static void request_lengths(void)
@@ -424,8 +431,48 @@ static void request_lengths(void)
         set_copies((uint64_t[]){ 1, 0 }, 2);
         copies.len = LENGTHS[i];
         snprintf(title, sizeof title, "request: a list of %zu bytes is 6", LENGTHS[i]);
-        request(title, 7, 300, 3, 9229, 6, NULL);
+        request(title, 7, 300, 3, 9234, 6, NULL);
     }
+}
+
+/* The kind and the age: what is written, and each refusal before the ones that follow it. */
+static void request_kinds(void)
+{
+    static const uint32_t KINDS[] = { 0, 1, 3, 5, 6, 7, 258, 4294967295u };
+    char title[96];
+    set_copies((uint64_t[]){ 3, 3, 3, 6 }, 4);
+    request_of("request: an age of 5", 4, 7, 300, 5, 3, 18, 0,
+        sheet_of("04 07 AC 02 05 04 02 00 01 02 00 01 02 00 01 02 01 02"));
+    request_of("request: an age of 0 is written, and the kind stays 4", 4, 7, 300, 0, 3, 18, 0,
+        sheet_of("04 07 AC 02 00 04 02 00 01 02 00 01 02 00 01 02 01 02"));
+    request_of("request: an age of an hour", 4, 7, 300, 3600000000u, 3, 64, 0,
+        sheet_of("04 07 AC 02 80 C8 CE B4 0D 04 02 00 01 02 00 01 02 00 01 02 01 02"));
+    request_of("request: with an age, one byte less is 11, and 18 were needed", 4, 7, 300, 5, 3, 17, needs(18), NULL);
+    request_of("request: kind 2 with an age of 1 is 15", 2, 7, 300, 1, 3, 9234, 15, NULL);
+    request_of("request: kind 2 with the greatest age is 15", 2, 7, 300, 4294967295u, 3, 9234, 15, NULL);
+    request_of("request: kind 2 with an age is 15 before N", 2, 7, 300, 1, 0, 9234, 15, NULL);
+    request_of("request: kind 2 with an age is 15 before a disk at N", 2, 7, 300, 1, 2, 9234, 15, NULL);
+    request_of("request: kind 2 with an age is 15 before 11", 2, 7, 300, 1, 3, 0, 15, NULL);
+    request_of("request: tenancy 0 is 6 before 15", 2, 7, 0, 1, 3, 9234, 6, NULL);
+    request_of("request: kind 4, tenancy 0 is 6", 4, 7, 0, 5, 3, 9234, 6, NULL);
+    request_of("request: kind 4, N 65 is 6", 4, 7, 300, 5, 65, 9234, 6, NULL);
+    request_of("request: kind 4, a disk at N is 16", 4, 7, 300, 5, 2, 9234, 16, NULL);
+    for (size_t i = 0; i < sizeof KINDS / sizeof KINDS[0]; i++) {
+        snprintf(title, sizeof title, "request: kind %u is 3", (unsigned)KINDS[i]);
+        request_of(title, KINDS[i], 7, 300, 0, 3, 9234, 3, NULL);
+        snprintf(title, sizeof title, "request: kind %u is 3 before all else", (unsigned)KINDS[i]);
+        request_of(title, KINDS[i], 7, 0, 1, 0, 0, 3, NULL);
+    }
+    copies.len = 31;
+    request_of("request: a broken list is 6 before 15", 2, 7, 300, 1, 3, 9234, 6, NULL);
+    request_of("request: a broken list, kind 5, is 3", 5, 7, 300, 1, 3, 9234, 3, NULL);
+    copies.len = 0;
+    request_of("request: no blocks, with an age", 4, 7, 300, 300, 1, 7, 0, sheet_of("04 07 AC 02 AC 02 00"));
+    request_of("request: no blocks, kind 2 with an age is 15", 2, 7, 300, 300, 1, 7, 15, NULL);
+    for (int i = 0; i < 1025; i++)
+        add_wide(&copies, 1, 8);
+    request_of("request: kind 2 with an age is 15 before 1,025 blocks", 2, 7, 300, 1, 64, 9234, 15, NULL);
+    request_of("request: kind 4, 1,025 blocks is 6", 4, 7, 300, 1, 64, 9234, 6, NULL);
 }
 
 static void request_longest(void)
@@ -439,12 +486,23 @@ static void request_longest(void)
         for (unsigned d = 56; d < 64; d++)
             add(&longest, d);
     }
-    verdict("request: the longest sheet is 9,229 bytes",
-        longest.len == 9229 && RP_LONGEST_REQUEST == 9229 ? NULL : "it is not");
-    request("request: 1,024 blocks, the longest sheet, exact fit", 4294967295u, 4294967295u, 64, 9229, 0, &longest);
-    request("request: the longest sheet, one byte less is 11", 4294967295u, 4294967295u, 64, 9228, needs(9229), NULL);
+    request("request: 1,024 blocks without an age, 9,229 bytes, exact fit", 4294967295u, 4294967295u, 64, 9229, 0,
+        &longest);
+    request("request: the same, one byte less is 11", 4294967295u, 4294967295u, 64, 9228, needs(9229), NULL);
+    longest = *sheet_of("04 FF FF FF FF 0F FF FF FF FF 0F FF FF FF FF 0F 80 08");
+    for (int i = 0; i < 1024; i++) {
+        add(&longest, 8);
+        for (unsigned d = 56; d < 64; d++)
+            add(&longest, d);
+    }
+    verdict("request: the longest sheet is 9,234 bytes",
+        longest.len == 9234 && RP_LONGEST_REQUEST == 9234 ? NULL : "it is not");
+    request_of("request: 1,024 blocks and the greatest age, the longest sheet, exact fit", 4, 4294967295u, 4294967295u,
+        4294967295u, 64, 9234, 0, &longest);
+    request_of("request: the longest sheet, one byte less is 11", 4, 4294967295u, 4294967295u, 4294967295u, 64, 9233,
+        needs(9234), NULL);
     add_wide(&copies, 1, 8);
-    request("request: 1,025 blocks is 6", 7, 300, 64, 9229, 6, NULL);
+    request("request: 1,025 blocks is 6", 7, 300, 64, 9234, 6, NULL);
     request("request: 1,025 blocks is 6 before 11", 7, 300, 64, 0, 6, NULL);
 }
 
@@ -753,6 +811,10 @@ static void worked(void)
     request("worked: request, of 2 disks", 7, 300, 2, 17, 0x0000000000000010u, NULL);
     set_copies((uint64_t[]){ 3, 3, 3, 6, 0 }, 5);
     request("worked: request, a fifth block without copies", 7, 300, 3, 17, 0x0000000000000007u, NULL);
+    set_copies((uint64_t[]){ 3, 3, 3, 6 }, 4);
+    request_of("worked: request, an age with kind 2", 2, 7, 300, 5, 3, 18, 0x000000000000000Fu, NULL);
+    request_of("worked: request, kind 3", 3, 7, 300, 5, 3, 18, 0x0000000000000003u, NULL);
+    request_of("worked: request, 17 bytes for one with an age", 4, 7, 300, 5, 3, 17, 0x000000120000000Bu, NULL);
 }
 
 static void words(void)
@@ -763,8 +825,8 @@ static void words(void)
             if (strcmp(rp_refusal_words(i), rp_refusal_words(j)) == 0)
                 why = "two have the same";
     verdict("words: every refusal has its own", why);
-    verdict("words: 15 and 16 are the document's",
-        strcmp(rp_refusal_words(RP_BAD_AMOUNT), "a cost, load, delay or plan time is out of its range") == 0
+    verdict("words: 15 and 16 tell what may be out of range",
+        strcmp(rp_refusal_words(RP_BAD_AMOUNT), "a cost, load, delay or plan time is out of its range, or a request of kind 2 has an age") == 0
             && strcmp(rp_refusal_words(RP_BAD_INDEX), "a disk or block number is out of its range") == 0
             && RP_BAD_AMOUNT == 15 && RP_BAD_INDEX == 16 ? NULL : "they are not");
 }
@@ -793,6 +855,7 @@ int main(void)
     request_no_blocks();
     request_copies();
     request_lengths();
+    request_kinds();
     request_longest();
     plan_sample();
     plan_ends();

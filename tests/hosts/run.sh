@@ -146,10 +146,14 @@ if [ "$SHELF" != none ]; then
             printf "%d,%d,%d\n", 1 + int(6 * rand()), int(4 * rand()), int(4 * rand()) }' >"$OUT/table"
         awk -v seed="$seed" 'BEGIN { srand(seed); for (b = 0; b < 2 + seed % 6; b++) print int(4 * rand()), int(4 * rand()), int(4 * rand()) }' \
             | awk '{ split("", on); line = ""; for (i = 1; i <= 3; i++) if (!on[$i]++) line = line " " $i; print line }' >"$OUT/list"
-        "$OUT/desk" settings 7 300 "$OUT/table" -o "$OUT/settings" && "$OUT/tenant" request 7 300 4 "$OUT/list" -o "$OUT/request" \
+        # of some the loads are taken at an age, which may be above all of them
+        age=$([ $((seed % 3)) -eq 0 ] || echo "--age $((seed % 5))")
+        # shellcheck disable=SC2086
+        "$OUT/desk" settings 7 300 "$OUT/table" -o "$OUT/settings" && "$OUT/tenant" request 7 300 4 "$OUT/list" $age -o "$OUT/request" \
             && "$OUT/stream" -o "$OUT/calls" 7 rent 300 settings "$OUT/settings" request 2964 "$OUT/request" why each each "$OUT/request" \
                 why 0 0 "$OUT/request" why 0 1 "$OUT/request" why 0 2 "$OUT/request" why 0 3 "$OUT/request" \
             && $SHELF <"$OUT/calls" >"$OUT/answers" && "$OUT/tenant" why 7 300 "$OUT/answers" --calls "$OUT/calls" --json >"$OUT/lines" \
+            && "$OUT/tenant" plan 7 300 "$OUT/answers" --disks "$OUT/table" --request "$OUT/list" $age >/dev/null \
             || echo "seed $seed: status $?" >>"$OUT/log"
         tr '{' '\n' <"$OUT/lines" | sed -n 's/.*"reason":\([1-5]\).*/\1/p' >>"$OUT/reasons"
         # each copy in turn has the shelf's line; the four that follow are the first block's again
@@ -174,8 +178,9 @@ if [ "$SECOND" != none ]; then
     compile deskline "" "$here/deskline.c" $parts
     passed 'build: deskline' $? "$OUT/log"
     "$SECOND" compare desk "$COUNT" 7 "$OUT/deskline" >"$OUT/log" 2>&1 \
-        && grep -q "^desk: $COUNT inputs the same\$" "$OUT/log"
-    passed "second program: $COUNT lines" $? "$OUT/log"
+        && awk -v count="$COUNT" '/^desk: [0-9]* inputs the same, [0-9]* of them systematic$/ && $2 - $6 == count { good = 1 }
+            END { exit !good }' "$OUT/log"
+    passed "second program: $COUNT lines, and all systematic ones" $? "$OUT/log"
 fi
 
 good=$(grep -c '^ok ' "$results")

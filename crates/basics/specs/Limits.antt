@@ -35,7 +35,7 @@ abbrev pub settingsMost : ℕ
 settingsMost = 652
 
 abbrev pub requestMost : ℕ
-requestMost = 9229
+requestMost = 9234
 
 abbrev pub planMost : ℕ
 planMost = 2964

@@ -22,7 +22,7 @@ pub const TIME_MOST: u32 = 1125000000;
 // The longest sheets, in bytes.
 pub const SETTINGS_MOST: usize = 652;
 
-pub const REQUEST_MOST: usize = 9229;
+pub const REQUEST_MOST: usize = 9234;
 
 pub const PLAN_MOST: usize = 2964;
 

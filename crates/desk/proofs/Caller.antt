@@ -36,7 +36,7 @@ use Rattle.basics.specs.Buffer.{over}
 use Rattle.basics.proofs.Buffer.{over-front}
 use Rattle.lent.specs.Numbers.{bytesOf, numbers, broken}
 use Rattle.lent.specs.Packed.{lengths, packRefused, writerAnswer, readerAnswer, refusalIn, placeIn, lengthIn}
-use Rattle.desk.specs.Desk.{settingsDraftOfBytes, requestDraftOfBytes, Exported, planIfRoom, setLeft, PlanRead}
+use Rattle.desk.specs.Desk.{settingsDraftOfBytes, tenancyWith, requestDraftOfBytes, Exported, planIfRoom, setLeft, PlanRead}
 use Rattle.lent.proofs.Numbers.{spell-length, numbers-length, numbers-spell}
 use Rattle.lent.proofs.Packed.{Unpacked, Refuses, written-unpacks, plan-unpacks, refusal-unpacks, refusal-number}
 use Rattle.desk.proofs.Reading.{Packable, plan-packable-room}
@@ -259,7 +259,9 @@ settings-of-numbers unit t cs ls ds p q r =
     pick-false _ _ (rw (whole-spell 4 cs, whole-spell 4 ls, whole-spell 4 ds))
     ∙ rw (numbers-spell 4 cs (lit< tt) p, numbers-spell 4 ls (lit< tt) q, numbers-spell 4 ds (lit< tt) r)
 
-pub request-of-numbers : (unit t n : ℕ) (ms : List ℕ) → All (λ (x : ℕ). x < 256 ^ 8) ms
-    → requestDraftOfBytes unit t n (spellAll (bytesOf 8) ms) ≡ requestDraft unit t n ms
-unfolding requestDraftOfBytes
-request-of-numbers unit t n ms p = pick-false _ _ (whole-spell 8 ms) ∙ ap (requestDraft unit t n) (numbers-spell 8 ms (lit< tt) p)
+pub request-of-numbers : (k unit t a n : ℕ) (ms : List ℕ) → All (λ (x : ℕ). x < 256 ^ 8) ms
+    → requestDraftOfBytes k unit t a n (spellAll (bytesOf 8) ms) ≡ requestDraft k unit t a n ms
+unfolding requestDraftOfBytes tenancyWith
+request-of-numbers k unit t a n ms p =
+    ap (λ (x : ℕ). requestDraft k unit x a n (numbers 8 (spellAll (bytesOf 8) ms))) (pick-false _ _ (whole-spell 8 ms))
+    ∙ ap (requestDraft k unit t a n) (numbers-spell 8 ms (lit< tt) p)

@@ -3,40 +3,48 @@
 --     Plain, Answerable             what a writer may answer: a refusal without a place, or a length of 32 bits
 --     short-sent                    so its length and its place have room in their bits
 --     costs-unusable, loads-unusable, delays-unusable         lists that are broken or too long are 6
+--     tenancy-broken, tenancy-whole     the tenancy that the request's writer takes
+--     request-few, request-whole, request-refused, request-unplaced     what was judged of a request's fields before the blocks
 --     settings-drafted, request-drafted     every draft of the two writers is answerable
 use mathlib.Core.Path.{_≡_, refl, sym, ap, _∙_, subst}
 use mathlib.Core.Bool.{Bool, true, false, _||_}
 use mathlib.Core.Logic.{⊎-elim}
-use mathlib.Core.List.{List, [], _∷_}
-use Prim.Native.Nat.{ℕ, _<_}
+use mathlib.Core.List.{List}
+use Prim.Native.Nat.{ℕ, _/_, _%_, _≤_, _<_}
 use native.Mathlib.Omega.{arith}
-use borrow.Author.Tests.{lt-ltb}
+use borrow.Author.Tests.{lt-ltb, le-ltb}
 use lib.ListN.{length}
 use Rattle.basics.specs.Limits.{disksMost, blocksMost}
-use Rattle.basics.specs.Choice.{pick}
 use Rattle.basics.proofs.Choice.{pick-true, pick-false, pick-elim}
+use Rattle.basics.proofs.Tests.{by-cases}
+use Rattle.field.specs.declared.Fault.{Fault}
+use Rattle.field.specs.declared.Verdict.{Verdict}
+use Rattle.field.specs.declared.Verdict.the-variants.{Accepted, Refused as Denied}
 use Rattle.field.specs.declared.Written.{Written}
 use Rattle.field.specs.declared.Written.the-variants.{Length, Refused}
 use Rattle.field.specs.Refusal.{noteOf}
 use Rattle.field.specs.Send.{Draft, sheet, none, toldWritten, answerTo, leftBy, Sent}
 use Rattle.field.specs.Sheet.{Note, got, refused, unplaced}
-use Rattle.field.proofs.Known.{Known}
+use Rattle.field.proofs.Known.{Known, Own, own-six, own-fifteen}
 use Rattle.field.proofs.Sends.{sent-bytes, sent-not}
 use Rattle.settings.specs.Draft.{settingsDraft}
 use Rattle.settings.proofs.Longest.{longest-written as longest-settings}
 use Rattle.settings.proofs.Writing.{ListsFit, lists-fit, unfit-lists, draft-sheet}
-use Rattle.request.specs.Draft.{checked, requestDraft}
+use Rattle.request.specs.Draft.{requestDraft}
+use Rattle.request.specs.Judged.{Judged}
+use Rattle.request.proofs.Writing.{draft-elim, judged-got, judged-refused}
 use Rattle.request.proofs.Longest.{longest-written as longest-request}
 use Rattle.lent.specs.Numbers.{numbers, broken, usable}
 use Rattle.lent.specs.Packed.{packRefused, lengths, writerAnswer, Fits32}
-use Rattle.desk.specs.Desk.{settingsDraftOfBytes, requestDraftOfBytes, Exported}
+use Rattle.desk.specs.Desk.{settingsDraftOfBytes, tenancyWith, requestDraftOfBytes, Exported}
+use Rattle.lent.proofs.Numbers.{numbers-length}
 use Rattle.lent.proofs.Tests.{is-usable, not-usable}
 
 -- ---- the ways in which a writer ends
 
-pub exported-refused : {d : Draft} (out : List ℕ) {r : ℕ} → r ≡ packRefused (unplaced 6) → d ≡ none (unplaced 6) → Exported d out r out
+pub exported-refused : {d : Draft} (out : List ℕ) {r : ℕ} {e : Note} → r ≡ packRefused e → d ≡ none e → Exported d out r out
 unfolding writerAnswer answerTo leftBy
-exported-refused out a e = rw e (record { answer = a; held = refl })
+exported-refused out a q = rw q (record { answer = a; held = refl })
 
 pub exported-sent : {d e : Draft} {out : List ℕ} {w : Written} {r : ℕ} {after : List ℕ} → d ≡ e → Sent e out w after
     → r ≡ writerAnswer (toldWritten w) → Exported d out r after
@@ -73,11 +81,8 @@ short-sent (none k) out (Length n) after s few =
 short-sent (sheet bs) out (Refused f) after s few = omega (arith, ap (λ (x : Note). x .place) (sent-not bs out f after s .1), few)
 short-sent (sheet bs) out (Length n) after s few = omega (arith, sent-bytes bs out n after s .0, few)
 
-plain : {n : ℕ} → Known n → (n ≡ 11 → ⊥) → Plain (unplaced n)
-plain k o = record { known = k; other = o; nowhere = refl }
-
-six : Plain (unplaced 6)
-six = plain (omega arith, omega arith) (λ z. omega (arith, z))
+plain : {n : ℕ} → Own n → Plain (unplaced n)
+plain o = record { known = o .0; other = o .1; nowhere = refl }
 
 -- ---- lists of costs, loads and delays
 
@@ -132,74 +137,65 @@ unfolding settingsDraft Answerable
 settings-drafted unit t cs ls ds =
     pick-elim Answerable _ _ _
     (λ f. pick-elim Answerable _ _ _ (λ g. settings-short unit t cs ls ds _ (draft-sheet unit t cs ls ds (lists-fit f) g .is))
-    (λ _. plain (omega arith, omega arith) (λ z. omega (arith, z))))
-    (λ _. six)
+    (λ _. plain own-fifteen))
+    (λ _. plain own-six)
 
 -- ---- lists of copy numbers
 
-module _ (unit t n : ℕ) (copies : List ℕ) where
-  pub copies-unusable : usable 8 blocksMost copies ≡ false → requestDraftOfBytes unit t n copies ≡ none (unplaced 6)
-  unfolding requestDraftOfBytes requestDraft
-  copies-unusable h =
-      pick-elim (λ (d : Draft). d ≡ none (unplaced 6)) _ _ _ (λ _. refl)
-      (λ f.
-      pick-elim (λ (d : Draft). d ≡ none (unplaced 6)) _ _ _ (λ _. refl)
-      (λ _. pick-elim (λ (d : Draft). d ≡ none (unplaced 6)) _ _ _ (λ _. refl)
-      (λ _. pick-elim (λ (d : Draft). d ≡ none (unplaced 6)) _ _ _ (λ _. refl)
-      (λ _. pick-true _ _
-      (⊎-elim (λ b. let z : true ≡ false = sym b ∙ f in absurd (let o : _≡_ {A = ℕ} 0 1 = cc in omega arith))
-      (λ l. lt-ltb _ _ l) (not-usable 8 blocksMost copies h))))))
+-- document 02's longest read request has 9,234 bytes
+pub request-drafted : (k unit t a n : ℕ) (ms : List ℕ) → Answerable (requestDraft k unit t a n ms)
+unfolding Answerable
+request-drafted k unit t a n ms =
+    draft-elim (λ (d : Draft). requestDraft k unit t a n ms ≡ d → Answerable d) (λ m own _. plain own) k unit t a n ms
+    (λ h. omega (arith, longest-request k unit t a n ms _ h)) refl
 
-  pub request-usable : usable 8 blocksMost copies ≡ true → requestDraftOfBytes unit t n copies ≡ requestDraft unit t n (numbers 8 copies)
-  unfolding requestDraftOfBytes
-  request-usable h = pick-false _ _ (is-usable 8 blocksMost copies h .0)
+module _ (t : ℕ) (copies : List ℕ) where
+  pub tenancy-broken : 0 < length copies % 8 → 0 ≡ tenancyWith t copies
+  unfolding tenancyWith broken
+  tenancy-broken h = sym (pick-true _ _ (lt-ltb 0 (length copies % 8) h))
 
--- document 01's longest read request has 9,229 bytes
-request-short : (unit t n : ℕ) (ms bs : List ℕ) → requestDraft unit t n ms ≡ sheet bs → length bs < lengths
-request-short unit t n ms bs h = omega (arith, longest-request unit t n ms bs h)
+  pub tenancy-whole : length copies % 8 ≤ 0 → t ≡ tenancyWith t copies
+  unfolding tenancyWith broken
+  tenancy-whole h = sym (pick-false _ _ (le-ltb 0 (length copies % 8) h))
 
--- the blocks are checked one by one; what comes of a sheet comes of the rest
-Safe : Draft → Type 0
-Safe d = (e : Note) → d ≡ none e → Plain e
-
-safe-pick : (b : Bool) (n : ℕ) (d : Draft) → Known n → (n ≡ 11 → ⊥) → Safe d → Safe (pick b (none (unplaced n)) d)
-unfolding Safe
-safe-pick b n d k o l =
-    pick-elim Safe b (none (unplaced n)) d (λ _ e q. let m : unplaced n ≡ e = cc in subst Plain m (plain k o)) (λ _. l)
-
-safe-six : (b : Bool) (d : Draft) → Safe d → Safe (pick b (none (unplaced 6)) d)
-safe-six b d l = safe-pick b 6 d (omega arith, omega arith) (λ z. omega (arith, z)) l
-
-safe-checked : (n : ℕ) (ms : List ℕ) (d : Draft) → Safe d → Safe (checked n ms d)
-unfolding checked
-safe-checked n [] d h = h
-safe-checked n (m ∷ ms) d h =
-    safe-pick _ 7 _ (omega arith, omega arith) (λ z. omega (arith, z))
-    (safe-six _ _ (safe-pick _ 16 _ (omega arith, omega arith) (λ z. omega (arith, z)) (safe-checked n ms d h)))
-
-safe-sheet : (bs : List ℕ) → Safe (sheet bs)
-unfolding Safe
-safe-sheet bs e q = absurd (let z : _≡_ {A = ℕ} 0 1 = cc in omega arith)
-
-safe-request : (unit t n : ℕ) (ms : List ℕ) → Safe (requestDraft unit t n ms)
-unfolding requestDraft
-safe-request unit t n ms =
-    safe-six _ _ (safe-six _ _ (safe-six _ _ (safe-six _ _ (safe-checked n ms _ (safe-sheet _)))))
-
-draft-answerable : (d : Draft) → ((bs : List ℕ) → d ≡ sheet bs → length bs < lengths) → Safe d → Answerable d
-unfolding Answerable Safe
-draft-answerable (sheet bs) f g = f bs refl
-draft-answerable (none e) f g = g e refl
-
-pub request-drafted : (unit t n : ℕ) (ms : List ℕ) → Answerable (requestDraft unit t n ms)
-request-drafted unit t n ms = draft-answerable (requestDraft unit t n ms) (request-short unit t n ms) (safe-request unit t n ms)
+  -- one that is not 0 is the request's own
+  tenancy-own : (tenancyWith t copies ≡ 0 → ⊥) → tenancyWith t copies ≡ t
+  unfolding tenancyWith
+  tenancy-own h = by-cases (broken 8 copies) (λ b. absurd (h (pick-true _ _ b))) (λ w. pick-false _ _ w)
 
 -- ---- of bytes
 
 pub settings-answerable : (unit t : ℕ) (costs loads delays : List ℕ) → Answerable (settingsDraftOfBytes unit t costs loads delays)
 unfolding settingsDraftOfBytes Answerable
-settings-answerable unit t costs loads delays = pick-elim Answerable _ _ _ (λ _. six) (λ _. settings-drafted unit t _ _ _)
+settings-answerable unit t costs loads delays = pick-elim Answerable _ _ _ (λ _. plain own-six) (λ _. settings-drafted unit t _ _ _)
 
-pub request-answerable : (unit t n : ℕ) (copies : List ℕ) → Answerable (requestDraftOfBytes unit t n copies)
-unfolding requestDraftOfBytes Answerable
-request-answerable unit t n copies = pick-elim Answerable _ _ _ (λ _. six) (λ _. request-drafted unit t n _)
+pub request-answerable : (k unit t a n : ℕ) (copies : List ℕ) → Answerable (requestDraftOfBytes k unit t a n copies)
+unfolding requestDraftOfBytes
+request-answerable k unit t a n copies = request-drafted k unit (tenancyWith t copies) a n (numbers 8 copies)
+
+-- ---- what was judged of a request before its list was read
+
+fields : (k t a n : ℕ) (copies : List ℕ) {u : ℕ} (v : Verdict) → u ≡ tenancyWith t copies → Judged k u a n (length copies / 8) v
+    → Judged k (tenancyWith t copies) a n (length (numbers 8 copies)) v
+fields k t a n copies v e j = rw (numbers-length 8 copies, sym e) j
+
+module _ (k t a n : ℕ) (copies : List ℕ) {u : ℕ} {v : Verdict} (e : u ≡ tenancyWith t copies)
+    (j : Judged k u a n (length copies / 8) v) where
+  -- accepted: the list is not too long, and whole
+  pub request-few : v ≡ Accepted → length copies / 8 ≤ blocksMost
+  request-few h = judged-got k u a n (length copies / 8) j h .count
+
+  pub request-whole : (unit : ℕ) → v ≡ Accepted → requestDraftOfBytes k unit t a n copies ≡ requestDraft k unit t a n (numbers 8 copies)
+  unfolding requestDraftOfBytes
+  request-whole unit h = ap (λ (x : ℕ). requestDraft k unit x a n (numbers 8 copies))
+      (tenancy-own t copies (judged-got k (tenancyWith t copies) a n (length (numbers 8 copies)) (fields k t a n copies v e j) h .rented))
+
+  -- refused: so is the draft, at no place
+  pub request-refused : (unit : ℕ) {f : Fault} → v ≡ Denied f → requestDraftOfBytes k unit t a n copies ≡ none (noteOf f)
+  unfolding requestDraftOfBytes requestDraft
+  request-refused unit h = judged-refused k (tenancyWith t copies) a n (length (numbers 8 copies)) (fields k t a n copies v e j) h _
+
+  pub request-unplaced : {f : Fault} → v ≡ Denied f → f .place < lengths
+  unfolding Answerable
+  request-unplaced {f} h =
+      let p : Plain (noteOf f) = subst Answerable (request-refused 0 h) (request-answerable k 0 t a n copies) in omega (arith, p .nowhere)

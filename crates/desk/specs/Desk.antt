@@ -1,5 +1,6 @@
 -- The promises of the three exported functions.
 --     settingsDraftOfBytes, requestDraftOfBytes     the sheet of lists of bytes, or why there is none
+--     tenancyWith       the tenancy of a request whose list is whole, else 0
 --     Exported          a writer's answer, and the buffer afterwards
 --     planIfRoom         what a plan sheet says, for two lists of bytes
 --     setLeft        the bytes of the short set afterwards
@@ -26,9 +27,13 @@ settingsDraftOfBytes unit t costs loads delays =
     pick (broken 4 costs || (broken 4 loads || broken 4 delays)) (none (unplaced 6))
     (settingsDraft unit t (numbers 4 costs) (numbers 4 loads) (numbers 4 delays))
 
--- the read request of eight-byte numbers; a list broken inside a number is 6 before the rest
-unfoldable pub requestDraftOfBytes : ℕ → ℕ → ℕ → List ℕ → Draft
-requestDraftOfBytes unit t n copies = pick (broken 8 copies) (none (unplaced 6)) (requestDraft unit t n (numbers 8 copies))
+-- a list broken inside a number is refused as tenancy 0 is: with 6, after the kind and before the rest
+unfoldable pub tenancyWith : ℕ → List ℕ → ℕ
+tenancyWith t copies = pick (broken 8 copies) 0 t
+
+-- the read request of eight-byte numbers
+unfoldable pub requestDraftOfBytes : ℕ → ℕ → ℕ → ℕ → ℕ → List ℕ → Draft
+requestDraftOfBytes k unit t a n copies = requestDraft k unit (tenancyWith t copies) a n (numbers 8 copies)
 
 -- the sheet stands at the start of the buffer, the rest as it was; on refusal nothing has changed
 pub record Exported (d : Draft) (out : List ℕ) (r : ℕ) (after : List ℕ) : Type 0 where

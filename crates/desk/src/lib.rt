@@ -3,15 +3,17 @@ use basics::BLOCKS;
 use basics::DISKS;
 use field::Fault;
 use field::Refusal;
+use field::Verdict;
 use field::Written;
 use plan::Answer;
+ghost use mathlib.Core.Path.{_≡_};
 ghost use Prim.Native.Nat.{_/_, _≤_};
 ghost use lib.ListN.{length};
 ghost use Rattle.basics.specs.Limits.{disksMost};
 ghost use Rattle.field.specs.Send.{Sent};
 ghost use Rattle.settings.specs.Draft.{settingsDraft};
 ghost use Rattle.lent.specs.Numbers.{numbers};
-ghost use Rattle.desk.specs.Desk.{settingsDraftOfBytes, requestDraftOfBytes, Exported, PlanRead};
+ghost use Rattle.desk.specs.Desk.{settingsDraftOfBytes, tenancyWith, requestDraftOfBytes, Exported, PlanRead};
 
 // Writes the settings sheet of lists that are whole and not too long.
 fn send_settings(
@@ -70,26 +72,39 @@ pub extern "C" fn rp_write_settings(
     lent::pack_written(send_settings(unit, tenancy, costs, loads, delays, out))
 }
 
-// Writes a read request for a unit of so many disks: eight bytes for each block, bit d standing for disk d.
+// The tenancy that a writer takes: 0, with which it refuses, where a list ends inside a number.
+fn tenancy_of(tenancy: u32, copies: &[u8]) -> u32
+    ensures { λ r. ⌜ r ≡ tenancyWith tenancy (now (copies .entry)) ⌝ }
+{
+    if 0 < copies.len() % 8 {
+        return 0;
+    }
+    tenancy
+}
+
+// Writes a read request of kind 2 or 4, with the age of the settings, for a unit of so many disks: eight bytes for each block, bit d
+// standing for disk d.
 #[no_mangle]
 pub extern "C" fn rp_write_request(
+    kind: u32,
     unit: u32,
     tenancy: u32,
+    age: u32,
     disks: u32,
     copies: &[u8],
     out: &mut [u8],
 ) -> u64
-    ensures { λ r. ⌜ Exported (requestDraftOfBytes unit tenancy disks (now (copies .entry))) (now (out .entry)) r (now (out .exit)) ⌝ }
+    ensures { λ r. ⌜ Exported (requestDraftOfBytes kind unit tenancy age disks (now (copies .entry))) (now (out .entry)) r
+        (now (out .exit)) ⌝ }
 {
-    if !lent::usable(copies, 8, BLOCKS) {
-        return lent::refuse(Fault {
-            refusal: Refusal::OutOfRange,
-            place: 0,
-        });
-    }
-    let blocks = lent::eights(copies);
     let n = copies.len() / 8;
-    lent::pack_written(request::write(unit, tenancy, disks, &blocks[..n], out))
+    match request::judge(kind, tenancy_of(tenancy, copies), age, disks, n) {
+        Verdict::Accepted => {
+            let blocks = lent::eights(copies);
+            lent::pack_written(request::write(kind, unit, tenancy, age, disks, &blocks[..n], out))
+        }
+        Verdict::Refused(e) => lent::refuse(e),
+    }
 }
 
 // Reads a plan sheet: a byte for each block's disk, two for each block of the short set.

@@ -39,7 +39,7 @@ own-one = own (omega arith) (omega arith) (λ z. omega (arith, z))
 own-two : Own 2
 own-two = own (omega arith) (omega arith) (λ z. omega (arith, z))
 
-own-three : Own 3
+pub own-three : Own 3
 own-three = own (omega arith) (omega arith) (λ z. omega (arith, z))
 
 own-four : Own 4

@@ -1,5 +1,6 @@
 -- Laws of kind, unit and tenancy, with which every sheet opens.
 --     addressed-tenancy, opening-tenancy     the tenancy that an accepted sheet is for is not 0
+--     opening-kind     its kind is one that the call takes
 --     reads-addressed, reads-opening     reading what was written
 --     addressed-spelt, opening-spelt, opening-one     the bytes of what was read; where a call takes one kind
 --     opening-length, opening-put        how many they are; writing them
@@ -17,7 +18,7 @@ use Rattle.field.specs.Sheet.{got, _>>_, pure}
 use Rattle.field.specs.Field.{exactly, tenancy, kind, addressed, opening}
 use Rattle.field.specs.Put.{openingBytes, PutOne, Laid}
 use Rattle.field.proofs.Sheet.{bind-got, after-got, pure-got}
-use Rattle.field.proofs.Values.{tenancy-within}
+use Rattle.field.proofs.Values.{tenancy-within, kind-within}
 use Rattle.field.proofs.Puts.{put-three}
 use Rattle.field.proofs.Read.{Reads, reads-bind, reads-then, reads-pure, reads-between, reads-kind}
 use Rattle.field.proofs.Spelt.{Spelt, spelt-join, between-spelt, kind-spelt}
@@ -68,6 +69,9 @@ module _ (unit due : ℕ) where
     -- an accepted one is for a tenancy, which is not 0
     pub opening-tenancy : 0 < due
     opening-tenancy = addressed-tenancy s (opened .mid) (opened .rest-got)
+
+    pub opening-kind : listed kinds k ≡ true
+    opening-kind = kind-within kinds s at (opened .kind-got) .1
 
   -- where a call takes one kind, it is that
   pub opening-one : (k : ℕ) (s : List ℕ) (at : ℕ) {v e : ℕ} → Bytes s → opening (k ∷ []) unit due s at ≡ got v e

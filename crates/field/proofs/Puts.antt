@@ -3,7 +3,8 @@
 --     laid-none, laid-more     these bytes from here on, all else as it was: no field yet, and one more
 --     laid-length, laid-join, laid-as     the buffer's length; bytes behind bytes; other names
 --     put-one, put-then, put-three, put-behind     one field; one before what follows it; three; one behind what was written
---     front-room, spell-room     where two parts have room, the first has; where a list has, its next value has
+--     front-room, rest-room     where two parts have room, the first has, and behind it the second
+--     spell-room     where a list has room, its next value has
 use mathlib.Core.Path.{_≡_, sym, ap, _∙_}
 use mathlib.Core.List.{List, [], _∷_, _++_}
 use Prim.Native.Nat.{ℕ, suc, _+_, _-_, _≤_, _<_}
@@ -112,6 +113,11 @@ put-three f g h l = put-then f l (λ m. put-then g m (λ k. put-one h k))
 -- where two parts have room, the first has
 pub front-room : (bs cs out : List ℕ) → length (bs ++ cs) ≤ length out → length bs ≤ length out
 front-room bs cs out h = omega (arith, length-append bs cs)
+
+-- behind the first there is room for the second
+pub rest-room : {out : List ℕ} {at : ℕ} {bs mid : List ℕ} {p : ℕ} (cs : List ℕ) → Laid out at bs mid p
+    → at + length (bs ++ cs) ≤ length out → p + length cs ≤ length mid
+rest-room {bs = bs} cs w h = omega (arith, w .place, laid-length w, length-append bs cs)
 
 -- a field behind what was written
 pub put-behind : {out : List ℕ} {bs mid : List ℕ} {p v next : ℕ} {after : List ℕ} → Laid out 0 bs mid p → PutOne v mid p next after

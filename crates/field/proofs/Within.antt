@@ -2,7 +2,7 @@
 --     Reach      a place that is so many bytes on at the most, and within the sheet
 --     placeOf, Places     what reading gives stands there: the place after a value, or the place that a refusal tells
 --     Within     a reader that reads so many bytes at the most, and refuses no further on
---     within-bind, within-then, within-bounded, within-pure, within-more     reader after reader
+--     within-bind, within-then, within-known, within-bounded, within-pure, within-more     reader after reader
 --     within-number, within-between, within-kind, within-opening, within-due, within-end     the fields
 --     within-times, within-ascending, within-whole     lists and a whole sheet
 --     place-inside     a sheet that is read from its first byte is refused at one of its bytes, or at its end
@@ -74,14 +74,19 @@ module _ {A B : Type 0} {j k : ℕ} where
         after (p s at) (λ a n. q s n) (omega arith) (w .places s at) (λ a n _ r. places-from r (v .places s n));
   }
 
--- what follows is told a number that has a bound
-pub within-bounded : {B : Type 0} {j k : ℕ} (most : ℕ) {p : Parser ℕ} {g : ℕ → Parser B} → Within j p
-    → ((s : List ℕ) (at v e : ℕ) → p s at ≡ got v e → v ≤ most) → ((v : ℕ) → v ≤ most → Within k (g v)) → Within (j + k) (p >>= g)
+-- what follows is told a value of which something is known
+pub within-known : {A B : Type 0} {j k : ℕ} (P : A → Type 0) {p : Parser A} {g : A → Parser B} → Within j p
+    → ((s : List ℕ) (at : ℕ) (v : A) (e : ℕ) → p s at ≡ got v e → P v) → ((v : A) → P v → Within k (g v)) → Within (j + k) (p >>= g)
 unfolding _>>=_
-within-bounded most {p} {g} w b v = record {
+within-known P {p} {g} w b v = record {
   places = λ s at.
       after (p s at) (λ a n. g a s n) (omega arith) (w .places s at) (λ a n q r. places-from r (v a (b s at a n q) .places s n));
 }
+
+-- a number that has a bound
+pub within-bounded : {B : Type 0} {j k : ℕ} (most : ℕ) {p : Parser ℕ} {g : ℕ → Parser B} → Within j p
+    → ((s : List ℕ) (at v e : ℕ) → p s at ≡ got v e → v ≤ most) → ((v : ℕ) → v ≤ most → Within k (g v)) → Within (j + k) (p >>= g)
+within-bounded most w b v = within-known (λ x. x ≤ most) w b v
 
 pub within-pure : {A : Type 0} (a : A) → Within 0 (pure a)
 unfolding pure placeOf

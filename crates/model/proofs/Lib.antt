@@ -1,4 +1,5 @@
 pub mod Capacity
+pub mod Left
 pub mod Duality
 pub mod Time
 pub mod Closed

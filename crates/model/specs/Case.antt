@@ -2,15 +2,18 @@
 -- N. Altiparmak and A. S. Tosun, Generalized Optimal Response Time Retrieval of Replicated Data from Storage Arrays,
 -- ACM Transactions on Storage 9, 2, Article 5 (2013).
 --     Case             disks, blocks, each disk's start and cost, and which disk holds a copy of which block
+--     left             what is left of a load after some time
 --     starting, base   when a disk starts; the base: disks by their costs, loads and delays
 --     Priced, Held     every cost is at least 1; every block has a copy on some disk
 --     Schedule         each block on one disk that holds a copy of it
 --     response         a schedule's time
 --     HasTime          the schedules of time t
 --     capacityAt       each disk's capacity at a time
-use Prim.Native.Nat.{ℕ, _+_, _<_}
+use Prim.Native.Nat.{ℕ, _+_, _-_, _<_}
 use mathlib.Core.Path.{_≡_}
 use mathlib.Core.Bool.{Bool, true}
+use lib.Dec.{ltb}
+use Rattle.basics.specs.Choice.{pick}
 use Rattle.basics.specs.Count.{latest}
 use Rattle.model.specs.Assignment.{reads, Valid}
 use Rattle.model.specs.Capacity.{endTime, capacity}
@@ -22,6 +25,10 @@ pub record Case : Type 0 where
   pub start : ℕ → ℕ
   pub cost : ℕ → ℕ
   pub copy : ℕ → ℕ → Bool
+
+-- the load less the age, and 0 if the age is larger; both cases are written out, since a machine's subtraction does not stop at 0
+unfoldable pub left : ℕ → ℕ → ℕ
+left age load = pick (ltb load age) 0 (load - age)
 
 -- a disk starts at delay plus load (001, equation 5)
 abbrev pub starting : ℕ → ℕ → ℕ

@@ -36,7 +36,7 @@ use Rattle.planner.proofs.Plannable.{length-costs, length-starts, asked
 
 module _ (number tenancy : ℕ) {t : Table} (w : Proper t) (s : List ℕ) {r : Request}
     (a : Read (length s) (requestSheet number tenancy (t .disks) s 0) r) where
-  pub asks-case : {q : ℕ} {cs ss : List ℕ} → r .answer ≡ Accepted q → Columns t cs ss
+  pub asks-case : {q : ℕ} {cs ss : List ℕ} → r .answer ≡ Accepted q → Columns t (r .age) cs ss
       → Asks (asked number tenancy t s) (length s) (record {
         answer = Accepted q;
         disks = t .disks;
@@ -46,15 +46,16 @@ module _ (number tenancy : ℕ) {t : Table} (w : Proper t) (s : List ℕ) {r : R
       })
   unfolding asked caseIn toldAnswer sized caseOr tableCase
   asks-case {q} {cs} {ss} h c =
-      let k : Accepts number tenancy (t .disks) s q (r .copies) = accepted number tenancy (t .disks) s q r (w .few) a h in
+      let k : Accepts number tenancy (t .disks) s q (r .kind) (r .age) (r .copies) =
+      accepted number tenancy (t .disks) s q r (w .few) a h in
       let x : Spelling = record { answer = Accepted q; disks = t .disks; copies = r .copies; costs = cs; starts = ss } in
       subst (λ (o : Out Case). Asks o (length s) x) (sym (ap (caseIn t) (k .sheet))) (record {
         answer = ap (λ (i : ℕ). got i (length s)) (sym (k .count));
         lists = record {
           copies = take q (r .copies);
           costs = costs t;
-          starts = map startOf (diskRows t);
-          starts-long = length-starts w ∙ sym (length-costs w);
+          starts = map (startOf (r .age)) (diskRows t);
+          starts-long = length-starts w (r .age) ∙ sym (length-costs w);
           case = refl;
           disks = sym (length-costs w);
           copies-held = pad-whole 0 blocksMost (r .copies) q (k .count) (k .beyond);

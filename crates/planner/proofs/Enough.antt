@@ -14,6 +14,7 @@ use Rattle.field.proofs.Known.{Answers}
 use Rattle.field.proofs.Sends.{Roomless, sent-enough}
 use Rattle.model.specs.Case.{Case}
 use Rattle.settings.specs.declared.Table.{Table}
+use Rattle.request.specs.Request.{Said}
 use Rattle.request.proofs.Known.{numbered-request}
 use Rattle.plan.specs.Plan.{Plan}
 use Rattle.plan.proofs.Placed.{roomless}
@@ -22,9 +23,9 @@ use Rattle.planner.specs.Asked.{caseIn, asked, Plans}
 use Rattle.planner.proofs.Plans.{plans-unique}
 
 -- no request is refused with 11
-case-answers : (t : Table) (o : Out (List ℕ)) → Answers o → Answers (caseIn t o)
+case-answers : (t : Table) (o : Out Said) → Answers o → Answers (caseIn t o)
 unfolding caseIn Answers
-case-answers t (got copies e) h = tt
+case-answers t (got r e) h = tt
 case-answers t (refused n) h = h
 
 module _ (number tenancy : ℕ) (t : Table) (s : List ℕ) where

@@ -9,3 +9,4 @@ pub mod Answers
 pub mod ReadBack
 pub mod Unique
 pub mod Enough
+pub mod Ages

@@ -1,5 +1,5 @@
 -- What was asked is within the limits of document 01.
---     asked-got          an accepted request, by its copies
+--     asked-got          an accepted request, by what it says
 --     asked-plannable    its case
 --     plan-for           a plan of such a case is within the ranges of a plan sheet
 use mathlib.Core.Path.{_≡_, refl, sym, _∙_, subst}
@@ -24,23 +24,23 @@ use Rattle.basics.proofs.Lists.{all-at, all-by}
 use Rattle.field.specs.Sheet.{Out, got, refused}
 use Rattle.settings.specs.declared.Table.{Table}
 use Rattle.settings.specs.Table.{diskRows, costs, Proper}
-use Rattle.request.specs.Request.{requestSheet}
+use Rattle.request.specs.Request.{Said, requestSheet}
 use Rattle.request.proofs.Accepted.{sheet-blocks}
 use Rattle.request.proofs.Writing.{Sendable}
 use Rattle.plan.specs.Plan.{Plan, ifAny}
 use Rattle.planner.specs.Asked.{startOf, tableCase, caseIn, asked, Plannable, PlanFor}
-use Rattle.planner.proofs.Rows.{count-disks, row-in, start-small, column-at}
+use Rattle.planner.proofs.Rows.{count-disks, row-in, start-small, start-zero, column-at}
 
 -- ---- the case
 
-case-got : (t : Table) (o : Out (List ℕ)) {m : Case} {e : ℕ} → caseIn t o ≡ got m e
-    → (copies : List ℕ) × (o ≡ got copies e) × (tableCase t copies ≡ m)
+case-got : (t : Table) (o : Out Said) {m : Case} {e : ℕ} → caseIn t o ≡ got m e
+    → (r : Said) × (o ≡ got r e) × (tableCase t (r .age) (r .copies) ≡ m)
 unfolding caseIn
-case-got t (got copies e) h = (copies, cc, cc)
+case-got t (got r e) h = (r, cc, cc)
 case-got t (refused n) h = absurd (let z : _≡_ {A = ℕ} 0 1 = cc in omega arith)
 
 pub asked-got : (number tenancy : ℕ) (t : Table) (s : List ℕ) {m : Case} {e : ℕ} → asked number tenancy t s ≡ got m e
-    → (copies : List ℕ) × (requestSheet number tenancy (t .disks) s 0 ≡ got copies e) × (tableCase t copies ≡ m)
+    → (r : Said) × (requestSheet number tenancy (t .disks) s 0 ≡ got r e) × (tableCase t (r .age) (r .copies) ≡ m)
 unfolding asked
 asked-got number tenancy t s h = case-got t _ h
 
@@ -49,19 +49,19 @@ module _ {t : Table} (w : Proper t) where
   unfolding costs
   length-costs = length-map (diskRows t) (λ r. r .cost) ∙ count-disks w
 
-  pub length-starts : length (map startOf (diskRows t)) ≡ t .disks
-  length-starts = length-map (diskRows t) startOf ∙ count-disks w
+  pub length-starts : (age : ℕ) → length (map (startOf age) (diskRows t)) ≡ t .disks
+  length-starts age = length-map (diskRows t) (startOf age) ∙ count-disks w
 
-  copies-plannable : (copies : List ℕ) → 0 < t .disks → length copies ≤ blocksMost → All (Sendable (t .disks)) copies
-      → Plannable (tableCase t copies)
-  unfolding tableCase costs Held startOf
-  copies-plannable copies some few each = record {
+  copies-plannable : (age : ℕ) (copies : List ℕ) → 0 < t .disks → length copies ≤ blocksMost → All (Sendable (t .disks)) copies
+      → Plannable (tableCase t age copies)
+  unfolding tableCase costs Held
+  copies-plannable age copies some few each = record {
     disks-some = omega (arith, length-costs);
     disks-few = omega (arith, length-costs, w .few);
     blocks-few = few;
     cost-least = λ d l. omega (arith, column-at w (λ r. r .cost) refl d, row-in w d (omega (arith, length-costs)) .cost-low);
     cost-most = λ d l. omega (arith, column-at w (λ r. r .cost) refl d, row-in w d (omega (arith, length-costs)) .cost-high);
-    start-most = λ d l. omega (arith, column-at w startOf refl d, start-small w d);
+    start-most = λ d l. omega (arith, column-at w (startOf age) (start-zero age) d, start-small w age d);
     held = λ b l.
         let s : Sendable (t .disks) (getD copies b 0) = all-at (Sendable (t .disks)) copies each b 0 l in
         let x = mask-some (t .disks) (getD copies b 0) (s .under) (omega (arith, s .some)) in
@@ -75,7 +75,7 @@ module _ {t : Table} (w : Proper t) where
   asked-plannable number tenancy s h =
       let g = asked-got number tenancy t s h in
       let b = sheet-blocks number tenancy (t .disks) s (g .0) _ (w .few) (g .1) in
-      subst Plannable (g .2) (copies-plannable (g .0) (b .0) (b .1) (b .2))
+      subst Plannable (g .2) (copies-plannable (g .0 .age) (g .0 .copies) (b .0) (b .1) (b .2))
 
 -- ---- the ranges of its plan
 

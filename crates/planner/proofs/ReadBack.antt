@@ -17,7 +17,7 @@ use Rattle.model.specs.Case.{Case}
 use Rattle.model.specs.Time.{LeastTime, GreatestEarliest}
 use Rattle.settings.specs.declared.Table.{Table}
 use Rattle.settings.specs.Table.{Proper}
-use Rattle.request.specs.Request.{requestSheet}
+use Rattle.request.specs.Request.{kinds, Said, requestSheet}
 use Rattle.request.proofs.Reading.{sheet-got}
 use Rattle.plan.specs.declared.Answer.{Answer}
 use Rattle.plan.specs.declared.Answer.the-variants.{Accepted, Refused}
@@ -57,8 +57,8 @@ module _ {o : Out Plan} {bytes : ℕ} {disks short disks′ short′ : List ℕ}
 
 -- ---- the sheet that was sent
 
-request-tenancy : (number tenancy n : ℕ) (s ms : List ℕ) (e : ℕ) → requestSheet number tenancy n s 0 ≡ got ms e → 0 < tenancy
-request-tenancy number tenancy n s ms e h = opening-tenancy number tenancy (2 ∷ []) s 0 (sheet-got number tenancy n s ms e h .headed .first)
+request-tenancy : (number tenancy n : ℕ) (s : List ℕ) (r : Said) (e : ℕ) → requestSheet number tenancy n s 0 ≡ got r e → 0 < tenancy
+request-tenancy number tenancy n s r e h = opening-tenancy number tenancy kinds s 0 (sheet-got number tenancy n s r e h .headed .first)
 
 module _ (number tenancy : ℕ) {t : Table} (s : List ℕ) (w : Proper t) (i : number < 2 ^ 32) (j : tenancy < 2 ^ 32)
     {m : Case} {e : ℕ} (g : asked number tenancy t s ≡ got m e) {out after : List ℕ} {n : ℕ}

@@ -1,4 +1,4 @@
--- The columns of a table: the cost and the start of each disk, and 0 behind them.
+-- The columns of a table: the cost of each disk and, at an age, its start, and 0 behind them.
 --     start-small     every row ends its wait within 101 seconds
 --     UpTo            the columns are done up to a row: at the start, one row more, at the end
 use mathlib.Core.Path.{_≡_, refl, sym, ap, _∙_}
@@ -13,6 +13,7 @@ use Rattle.basics.specs.Limits.{disksMost, startMost}
 use Rattle.basics.specs.Padded.{padTo}
 use Rattle.basics.proofs.Padded.{pad-length, pad-at}
 use Rattle.basics.proofs.Tests.{lt-or-le}
+use Rattle.model.proofs.Left.{left-most}
 use Rattle.settings.specs.declared.Row.{Row}
 use Rattle.settings.specs.declared.Table.{Table}
 use Rattle.settings.specs.Row.{disk}
@@ -35,12 +36,12 @@ module _ {t : Table} (w : Proper t) where
   pub row-in : (d : ℕ) → d < t .disks → InRange (rowAt t d)
   row-in d l = in-range _ (proper-good w d l)
 
-  pub start-small : (i : ℕ) → startOf (rowAt t i) ≤ startMost
+  pub start-small : (age i : ℕ) → startOf age (rowAt t i) ≤ startMost
   unfolding startOf
-  start-small i =
+  start-small age i =
       ⊎-elim
-      (λ l. omega (arith, row-in i l .load-high, row-in i l .delay-high))
-      (λ l. rw (proper-zero w i l) (omega arith))
+      (λ l. omega (arith, left-most age (rowAt t i .load), row-in i l .load-high, row-in i l .delay-high))
+      (λ l. rw (proper-zero w i l) (omega (arith, left-most age 0)))
       (lt-or-le i (t .disks))
 
   module _ (f : Row → ℕ) (z : f (disk 0 0 0) ≡ 0) where
@@ -63,15 +64,16 @@ module _ {t : Table} (w : Proper t) where
 
 -- ---- row by row
 
-pub record UpTo (rows : List Row) (costs starts : List ℕ) (i : ℕ) : Type 0 where
+pub record UpTo (age : ℕ) (rows : List Row) (costs starts : List ℕ) (i : ℕ) : Type 0 where
   pub below : i ≤ disksMost
   pub costs-long : length costs ≡ disksMost
   pub starts-long : length starts ≡ disksMost
   pub cost : (k : ℕ) → k < i → getD costs k 0 ≡ (getD rows k (disk 0 0 0)) .cost
-  pub start : (k : ℕ) → k < i → getD starts k 0 ≡ startOf (getD rows k (disk 0 0 0))
+  pub start : (k : ℕ) → k < i → getD starts k 0 ≡ startOf age (getD rows k (disk 0 0 0))
 
-pub upto-start : (rows : List Row) (costs starts : List ℕ) → length costs ≡ disksMost → length starts ≡ disksMost → UpTo rows costs starts 0
-upto-start rows costs starts p q = record {
+pub upto-start : (age : ℕ) (rows : List Row) (costs starts : List ℕ) → length costs ≡ disksMost → length starts ≡ disksMost
+    → UpTo age rows costs starts 0
+upto-start age rows costs starts p q = record {
   below = omega arith;
   costs-long = p;
   starts-long = q;
@@ -87,22 +89,27 @@ one-more f xs i v l e h =
     (λ k m. getD-set-other xs i k v 0 (λ q. omega arith) ∙ h k m)
     (getD-set-same xs i v 0 l ∙ e)
 
-pub upto-step : {rows : List Row} {costs starts : List ℕ} {i : ℕ} (r : Row) → i < disksMost → r ≡ getD rows i (disk 0 0 0)
-    → UpTo rows costs starts i → UpTo rows (set costs i (r .cost)) (set starts i (r .delay + r .load)) (i + 1)
-unfolding startOf
-upto-step {rows} {costs} {starts} {i} r l e w = record {
+pub upto-step : {age : ℕ} {rows : List Row} {costs starts : List ℕ} {i : ℕ} (r : Row) (s : ℕ) → i < disksMost
+    → r ≡ getD rows i (disk 0 0 0) → s ≡ startOf age r → UpTo age rows costs starts i
+    → UpTo age rows (set costs i (r .cost)) (set starts i s) (i + 1)
+upto-step {age} {rows} {costs} {starts} {i} r s l e h w = record {
   below = omega arith;
   costs-long = length-set costs i (r .cost) ∙ w .costs-long;
-  starts-long = length-set starts i (r .delay + r .load) ∙ w .starts-long;
+  starts-long = length-set starts i s ∙ w .starts-long;
   cost = one-more (λ k. (getD rows k (disk 0 0 0)) .cost) costs i (r .cost) (omega (arith, w .costs-long)) (ap (λ x. x .cost) e) (w .cost);
   start =
-      one-more (λ k. startOf (getD rows k (disk 0 0 0))) starts i (r .delay + r .load) (omega (arith, w .starts-long)) (ap startOf e)
-      (w .start);
+      one-more (λ k. startOf age (getD rows k (disk 0 0 0))) starts i s (omega (arith, w .starts-long)) (h ∙ ap (startOf age) e) (w .start);
 }
 
-pub upto-done : {t : Table} {cs ss : List ℕ} {i : ℕ} → Proper t → disksMost ≤ i → UpTo (t .rows) cs ss i → Columns t cs ss
-unfolding startOf costs
-upto-done {t} {cs} {ss} {i} f l w = record {
+-- a row that is 0 starts at 0 at every age
+pub start-zero : (age : ℕ) → startOf age (disk 0 0 0) ≡ 0
+unfolding startOf
+start-zero age = omega (arith, left-most age 0)
+
+pub upto-done : {age : ℕ} {t : Table} {cs ss : List ℕ} {i : ℕ} → Proper t → disksMost ≤ i → UpTo age (t .rows) cs ss i
+    → Columns t age cs ss
+unfolding costs
+upto-done {age} {t} {cs} {ss} {i} f l w = record {
   costs-held = column-whole f (λ r. r .cost) refl cs (w .costs-long) (λ k m. w .cost k (omega arith));
-  starts-held = column-whole f startOf refl ss (w .starts-long) (λ k m. w .start k (omega arith));
+  starts-held = column-whole f (startOf age) (start-zero age) ss (w .starts-long) (λ k m. w .start k (omega arith));
 }

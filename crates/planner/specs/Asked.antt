@@ -1,5 +1,5 @@
 -- From what a unit holds (its number, its tenancy, its table) and a request sheet to the case, or the refusal; and what its plan is.
---     startOf, tableCase     when a disk of the table starts; the case that a table and the copies of a request spell
+--     startOf, tableCase     when a disk of the table starts; the case that a table, an age and the copies of a request spell
 --     asked               the case that a unit and a request sheet spell, or the refusal
 --     Plannable           a case within the limits of document 01
 --     PlanFor, Plans      a plan sheet's values are the plan of a case; the plan of what was asked, or the refusal
@@ -10,27 +10,27 @@ use mathlib.Core.List.{List, map}
 use lib.ListN.{length, getD}
 use Rattle.basics.specs.Limits.{disksMost, blocksMost, costMost, startMost}
 use Rattle.basics.specs.Lists.{listed}
-use Rattle.model.specs.Case.{Case, starting, Held}
+use Rattle.model.specs.Case.{Case, left, starting, Held}
 use Rattle.model.specs.Plan.{Optimal}
 use Rattle.engine.specs.Spelled.{spelled}
 use Rattle.field.specs.Sheet.{Out, got, refused}
 use Rattle.settings.specs.declared.Row.{Row}
 use Rattle.settings.specs.declared.Table.{Table}
 use Rattle.settings.specs.Table.{diskRows, costs}
-use Rattle.request.specs.Request.{requestSheet}
+use Rattle.request.specs.Request.{Said, requestSheet}
 use Rattle.plan.specs.Plan.{Plan}
 use Rattle.plan.specs.Range.{InRange}
 
--- a disk starts at its delay plus its load
-unfoldable pub startOf : Row → ℕ
-startOf r = starting (r .delay) (r .load)
+-- a disk starts at its delay plus what the age has left of its load
+unfoldable pub startOf : ℕ → Row → ℕ
+startOf age r = starting (r .delay) (left age (r .load))
 
--- the disks of a table with their costs and starts, and the blocks of a request with their copies, bit d standing for disk d
-unfoldable pub tableCase : Table → List ℕ → Case
-tableCase t copies = spelled copies (costs t) (map startOf (diskRows t))
+-- the disks of a table with their costs and, at an age, their starts; the blocks of a request with their copies, bit d standing for disk d
+unfoldable pub tableCase : Table → ℕ → List ℕ → Case
+tableCase t age copies = spelled copies (costs t) (map (startOf age) (diskRows t))
 
-unfoldable pub caseIn : Table → Out (List ℕ) → Out Case
-caseIn t (got copies e) = got (tableCase t copies) e
+unfoldable pub caseIn : Table → Out Said → Out Case
+caseIn t (got r e) = got (tableCase t (r .age) (r .copies)) e
 caseIn t (refused n) = refused n
 
 -- the sheet is read for the unit of this number, its tenancy (0: not rented) and its N (0: no settings yet)

@@ -21,9 +21,9 @@ use Rattle.plan.specs.Plan.{Plan}
 use Rattle.planner.specs.declared.Spelling.{Spelling}
 use Rattle.planner.specs.Asked.{startOf, Plannable, PlanFor}
 
-pub record Columns (t : Table) (costs′ starts′ : List ℕ) : Type 0 where
+pub record Columns (t : Table) (age : ℕ) (costs′ starts′ : List ℕ) : Type 0 where
   pub costs-held : costs′ ≡ padTo 0 disksMost (costs t)
-  pub starts-held : starts′ ≡ padTo 0 disksMost (map startOf (diskRows t))
+  pub starts-held : starts′ ≡ padTo 0 disksMost (map (startOf age) (diskRows t))
 
 pub record Solvable (copies costs starts : List ℕ) : Type 0 where
   pub starts-long : length starts ≡ length costs

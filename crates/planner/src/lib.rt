@@ -10,6 +10,7 @@ ghost use mathlib.Core.Path.{_≡_};
 ghost use lib.ListN.{length};
 ghost use Rattle.basics.specs.Limits.{disksMost};
 ghost use Rattle.engine.specs.Spelled.{spelled};
+ghost use Rattle.model.specs.Case.{left as leftOf};
 ghost use Rattle.field.specs.Send.{Sent};
 ghost use Rattle.plan.specs.Draft.{planDraft};
 ghost use Rattle.settings.specs.Table.{Proper};
@@ -39,7 +40,7 @@ pub fn ask(number: u32, tenancy: u32, table: Table, sheet: &[u8]) -> Spelling
     let mut starts = [0u32; DISKS];
     match answer {
         Answer::Accepted(q) => {
-            columns(table, &mut costs, &mut starts);
+            columns(table, said.age, &mut costs, &mut starts);
             Spelling {
                 answer: Answer::Accepted(q),
                 disks: table.disks as usize,
@@ -127,17 +128,27 @@ fn send(
     plan::write(number, tenancy, found.time, &disks[..q], &short[..m], out)
 }
 
-// The cost and the start of each disk.
-fn columns(table: Table, costs: &mut [u32; DISKS], starts: &mut [u32; DISKS])
+// What is left of a load at an age.
+fn left(age: u32, load: u32) -> u32
+    ensures { λ r. ⌜ r ≡ leftOf age load ⌝ }
+{
+    if load < age {
+        return 0;
+    }
+    load - age
+}
+
+// The cost of each disk, and its start at an age.
+fn columns(table: Table, age: u32, costs: &mut [u32; DISKS], starts: &mut [u32; DISKS])
     requires { ⌜ Proper table × (length (now costs) ≡ disksMost) × (length (now starts) ≡ disksMost) ⌝ }
-    ensures { λ _. ⌜ Columns table (now (costs .exit)) (now (starts .exit)) ⌝ }
+    ensures { λ _. ⌜ Columns table age (now (costs .exit)) (now (starts .exit)) ⌝ }
 {
     let rows = table.rows;
     let mut i = 0;
     while i < DISKS {
         let row = rows[i];
         costs[i] = row.cost;
-        starts[i] = row.delay + row.load;
+        starts[i] = row.delay + left(age, row.load);
         i += 1;
     }
 }

@@ -1,17 +1,21 @@
 -- What an accepted request says: for those who call the reader.
 --     block-sendable, sheet-blocks               what is known of a block that was read, whatever the bytes
---     Accepts, accepted                          what is known of the copies that are handed out
+--     said-kind, said-age-none                   its kind is 2 or 4; with kind 2 the age is 0
+--     age-spelt, said-age-small                  the bytes of the age; it has 32 bits
+--     Accepts, accepted                          what is known of the kind, the age and the copies that are handed out
 --     accepted-at                                the same of one block
 --     refused-sheet                              what a refusal says of the sheet
 use mathlib.Core.Path.{_≡_, sym, ap, _∙_, subst}
+use mathlib.Core.Logic.{_⊎_}
 use mathlib.Core.List.{List}
 use Prim.Native.Nat.{ℕ, _+_, _-_, _^_, _≤_, _<_}
 use native.Mathlib.Omega.{arith}
-use borrow.Author.Tests.{ltb-true, ltb-false}
-use lib.Dec.{ltb}
+use borrow.Author.Tests.{eqb-true, eqb-false, ltb-true, ltb-false}
+use lib.Dec.{eqb, ltb}
 use lib.ListN.{length, take, drop, getD, replicate}
 use lib.Seq.{getD-take}
 use Rattle.basics.proofs.Tests.{by-cases}
+use Rattle.number.specs.Bytes.{Bytes}
 use Rattle.mask.specs.Count.{members}
 use Rattle.mask.specs.Has.{has}
 use Rattle.mask.proofs.Has.{has-zero}
@@ -20,16 +24,20 @@ use Rattle.field.specs.declared.Fault.{Fault}
 use Rattle.field.specs.Refusal.{noteOf}
 use Rattle.field.specs.Sheet.{Note, Out, got, refused}
 use Rattle.basics.proofs.Lists.{all-at}
+use Rattle.field.proofs.Opened.{opening-kind, opening-spelt}
+use Rattle.field.proofs.Spelt.{Spelt, spelt-none, number-spelt}
 use Rattle.field.proofs.Values.{ascending-rises, times-all}
 use Rattle.basics.specs.Lists.{All, Rises}
 use Rattle.request.specs.declared.Answer.the-variants.{Accepted, Refused}
 use Rattle.request.specs.declared.Request.{Request}
 use Rattle.request.specs.Disks.{maskOf, disksOf}
-use Rattle.request.specs.Request.{lastDisk, block, requestSheet}
-use Rattle.request.specs.Told.{toldAnswer, counted, copiesOf, Told}
+use Rattle.request.specs.Draft.{ageBytes}
+use Rattle.request.specs.Request.{kinds, Said, lastDisk, block, age, requestSheet}
+use Rattle.request.specs.Told.{toldAnswer, counted, kindIn, ageIn, copiesOf, Told}
+use Rattle.request.proofs.Aged.{kind-either, age-held, age-empty}
 use Rattle.request.proofs.Disks.{disks-mask, mask-under}
 use Rattle.request.proofs.Writing.{disks-count, Sendable}
-use Rattle.request.proofs.Reading.{last-under, last-few, last-all, Listed, block-got, Whole, sheet-got}
+use Rattle.request.proofs.Reading.{last-under, last-few, last-all, said, Listed, block-got, age-four, age-none, Whole, sheet-got}
 use Rattle.basics.specs.Limits.{disksMost, blocksMost, copiesMost}
 use Rattle.basics.specs.Padded.{padTo}
 use Rattle.basics.proofs.Padded.{pad-front, pad-rest}
@@ -69,63 +77,96 @@ block-sendable n known within s at m e h =
     × Rises 0 (lastDisk n) (w .disks) = ascending-rises (lastDisk n) s (w .count) 0 (w .mid) (w .disks) e (w .rest) in
     subst (Sendable n) (w .sum) (sendable n known within (w .count) (w .disks) (r .1) (r .0) (w .some) (w .few))
 
--- ---- the copies that are handed out
+-- an accepted sheet, as the definition has it
+module _ (unit t n : ℕ) (s : List ℕ) (r : Said) (e : ℕ) where
+  pub sheet-blocks : n ≤ disksMost → requestSheet unit t n s 0 ≡ got r e
+      → (0 < n) × (length (r .copies) ≤ blocksMost) × All (Sendable n) (r .copies)
+  sheet-blocks l h =
+      let w : Whole unit t n s r e = sheet-got unit t n s r e h in
+      let known : 0 < n = ltb-true 0 n (w .headed .known) in
+      let j : (length (r .copies) ≡ w .count)
+      × All (Sendable n) (r .copies) = times-all (block (lastDisk n)) (Sendable n) s (block-sendable n (λ z. omega arith) l s) (w .count)
+      (w .mid) (r .copies) e (w .rest) in
+      (known, omega (arith, j .0, w .small), j .1)
 
-pub record Accepts (unit t n : ℕ) (s : List ℕ) (q : ℕ) (copies : List ℕ) : Type 0 where
-  pub sheet : requestSheet unit t n s 0 ≡ got (take q copies) (length s)
+  pub said-kind : requestSheet unit t n s 0 ≡ got r e → (r .kind ≡ 2) ⊎ (r .kind ≡ 4)
+  said-kind h = kind-either (r .kind) (opening-kind unit t kinds s 0 (sheet-got unit t n s r e h .headed .first))
+
+  pub said-age-none : requestSheet unit t n s 0 ≡ got r e → r .kind ≡ 2 → r .age ≡ 0
+  said-age-none h k =
+      let w : Whole unit t n s r e = sheet-got unit t n s r e h in
+      let g : got 0 (w .headed .mid) ≡ got (r .age) (w .headed .next) =
+      sym (age-none (r .kind) s (w .headed .mid) (λ z. omega arith)) ∙ w .headed .aged in
+      cc
+
+-- ---- of bytes
+
+pub age-spelt : (k : ℕ) (s : List ℕ) → Bytes s → (at a e : ℕ) → at ≤ length s → age k s at ≡ got a e
+    → Spelt s at e (ageBytes k a) × (a < 2 ^ 32)
+age-spelt k s b at a e l h =
+    by-cases (eqb k 4)
+    (λ t. let z : k ≡ 4 = eqb-true k 4 t in rw (age-held k a z) (number-spelt s at a e b (sym (age-four k s at z) ∙ h)))
+    (λ f.
+    let z : k ≡ 4 → ⊥ = eqb-false k 4 f in
+    let g : got 0 at ≡ got a e = sym (age-none k s at z) ∙ h in
+    let none : a ≡ 0 = cc in
+    let here : e ≡ at = cc in
+    rw (age-empty k a z, here) (spelt-none s at l, omega arith))
+
+pub said-age-small : (unit t n : ℕ) (s : List ℕ) (r : Said) (e : ℕ) → Bytes s → requestSheet unit t n s 0 ≡ got r e → r .age < 2 ^ 32
+said-age-small unit t n s r e b h =
+    let w = sheet-got unit t n s r e h .headed in
+    let f = opening-spelt unit t kinds s 0 (w .first) b in
+    age-spelt (r .kind) s b (w .mid) (r .age) (w .next) (f .0 .within) (w .aged) .1
+
+-- ---- what is handed out
+
+pub record Accepts (unit t n : ℕ) (s : List ℕ) (q kind age : ℕ) (copies : List ℕ) : Type 0 where
+  pub sheet : requestSheet unit t n s 0 ≡ got (said kind age (take q copies)) (length s)
   pub known : 0 < n
   pub small : q ≤ blocksMost
   pub count : length (take q copies) ≡ q
   pub blocks : All (Sendable n) (take q copies)
   pub beyond : drop q copies ≡ replicate (blocksMost - q) 0
 
--- an accepted sheet, as the definition has it
-pub sheet-blocks : (unit t n : ℕ) (s ms : List ℕ) (e : ℕ) → n ≤ disksMost → requestSheet unit t n s 0 ≡ got ms e → (0 < n)
-    × (length ms ≤ blocksMost) × All (Sendable n) ms
-sheet-blocks unit t n s ms e l h =
-    let w : Whole unit t n s ms e = sheet-got unit t n s ms e h in
-    let known : 0 < n = ltb-true 0 n (w .headed .known) in
-    let j : (length ms ≡ w .count)
-    × All (Sendable n) ms = times-all (block (lastDisk n)) (Sendable n) s (block-sendable n (λ z. omega arith) l s) (w .count)
-    (w .mid) ms e (w .rest) in
-    (known, omega (arith, j .0, w .small), j .1)
-
 -- by cases on what the definition says
-counted-got : (o : Out (List ℕ)) (len q : ℕ) → got q len ≡ counted o → (ms : List ℕ) × (o ≡ got ms len) × (length ms ≡ q)
+counted-got : (o : Out Said) (len q : ℕ) → got q len ≡ counted o → (r : Said) × (o ≡ got r len) × (length (r .copies) ≡ q)
 unfolding counted
-counted-got (got ms e) len q h = (ms, cc, cc)
+counted-got (got r e) len q h = (r, cc, cc)
 counted-got (refused n) len q h = absurd (let z : _≡_ {A = ℕ} 0 1 = cc in omega arith)
 
-counted-refused : (o : Out (List ℕ)) (n : Note) → refused n ≡ counted o → o ≡ refused n
+counted-refused : (o : Out Said) (n : Note) → refused n ≡ counted o → o ≡ refused n
 unfolding counted
-counted-refused (got ms e) n h = absurd (let z : _≡_ {A = ℕ} 0 1 = cc in omega arith)
+counted-refused (got r e) n h = absurd (let z : _≡_ {A = ℕ} 0 1 = cc in omega arith)
 counted-refused (refused m) n h = cc
 
 pub accepted : (unit t n : ℕ) (s : List ℕ) (q : ℕ) (r : Request) → n ≤ disksMost → Told (length s) (requestSheet unit t n s 0) r
-    → r .answer ≡ Accepted q → Accepts unit t n s q (r .copies)
-unfolding toldAnswer copiesOf
+    → r .answer ≡ Accepted q → Accepts unit t n s q (r .kind) (r .age) (r .copies)
+unfolding toldAnswer kindIn ageIn copiesOf
 accepted unit t n s q r l a h =
-    let w : (ms : List ℕ) × (requestSheet unit t n s 0 ≡ got ms (length s))
-    × (length ms ≡ q) = counted-got (requestSheet unit t n s 0) (length s) q (sym (ap (toldAnswer (length s)) h) ∙ a .told) in
-    let c : r .copies ≡ padTo 0 blocksMost (w .0) = a .held ∙ ap copiesOf (w .1) in
-    let front : take q (r .copies) ≡ w .0 = ap (take q) c ∙ pad-front 0 blocksMost (w .0) q (w .2) in
-    let b : (0 < n) × (length (w .0) ≤ blocksMost) × All (Sendable n) (w .0) = sheet-blocks unit t n s (w .0) (length s) l (w .1) in
+    let w : (x : Said) × (requestSheet unit t n s 0 ≡ got x (length s))
+    × (length (x .copies) ≡ q) = counted-got (requestSheet unit t n s 0) (length s) q (sym (ap (toldAnswer (length s)) h) ∙ a .told) in
+    let ms : List ℕ = w .0 .copies in
+    let c : r .copies ≡ padTo 0 blocksMost ms = a .held ∙ ap copiesOf (w .1) in
+    let front : take q (r .copies) ≡ ms = ap (take q) c ∙ pad-front 0 blocksMost ms q (w .2) in
+    let k : r .kind ≡ w .0 .kind = a .kind ∙ ap kindIn (w .1) in
+    let g : r .age ≡ w .0 .age = a .age ∙ ap ageIn (w .1) in
+    let b : (0 < n) × (length ms ≤ blocksMost) × All (Sendable n) ms = sheet-blocks unit t n s (w .0) (length s) l (w .1) in
     record {
-      sheet = w .1 ∙ ap (λ (x : List ℕ). got x (length s)) (sym front);
+      sheet = rw (k, g, front) (w .1);
       known = b .0;
       small = omega (arith, b .1, w .2);
       count = ap length front ∙ w .2;
       blocks = subst (All (Sendable n)) (sym front) (b .2);
-      beyond = ap (drop q) c ∙ pad-rest 0 blocksMost (w .0) q (w .2);
+      beyond = ap (drop q) c ∙ pad-rest 0 blocksMost ms q (w .2);
     }
 
 -- each block has copies, at most eight, all below N
-pub accepted-at : {unit t n : ℕ} {s : List ℕ} {q : ℕ} {copies : List ℕ} → Accepts unit t n s q copies → (i : ℕ) → i < q
+pub accepted-at : {unit t n : ℕ} {s : List ℕ} {q kind age : ℕ} {copies : List ℕ} → Accepts unit t n s q kind age copies → (i : ℕ) → i < q
     → Sendable n (getD copies i 0)
-accepted-at {unit} {t} {n} {s} {q} {copies} a i l =
+accepted-at {n = n} {q = q} {copies = copies} a i l =
     subst (Sendable n) (getD-take q copies i 0 l) (all-at (Sendable n) (take q copies) (a .blocks) i 0 (omega (arith, a .count)))
 
-pub refused-sheet : (len : ℕ) (o : Out (List ℕ)) (r : Request) (e : Fault) → Told len o r → r .answer ≡ Refused e
-    → o ≡ refused (noteOf e)
+pub refused-sheet : (len : ℕ) (o : Out Said) (r : Request) (e : Fault) → Told len o r → r .answer ≡ Refused e → o ≡ refused (noteOf e)
 unfolding toldAnswer
 refused-sheet len o r e a h = counted-refused o (noteOf e) (sym (ap (toldAnswer len) h) ∙ a .told)

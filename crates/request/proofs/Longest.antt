@@ -1,7 +1,8 @@
--- No request is longer than 9,229 bytes, and one is as long.
+-- No request is longer than 9,234 bytes, and one is as long.
 --     longest-written, longest-read     what is written, and what is accepted
---     longest-reached                   1,024 blocks with eight copies each
+--     longest-reached                   kind 4 with the greatest age, and 1,024 blocks with eight copies each
 use mathlib.Core.Path.{_≡_, refl, ap, _∙_}
+use mathlib.Core.Logic.{inr}
 use mathlib.Core.List.{List}
 use Prim.Native.Nat.{ℕ, zero, suc, _+_, _*_, _≤_}
 use native.Mathlib.Omega.{arith}
@@ -17,29 +18,42 @@ use Rattle.basics.specs.Count.{bit, sum, count}
 use Rattle.field.specs.Put.{spellAll}
 use Rattle.field.specs.Sheet.{got}
 use Rattle.field.specs.Send.{sheet}
-use Rattle.request.specs.Request.{requestSheet}
-use Rattle.request.specs.Draft.{blockBytes, requestBytes, requestDraft}
-use Rattle.request.proofs.Writing.{block-length, Sendable, checked-pass, Drafted, drafted, draft-of, blocks-bound, request-length}
+use Rattle.request.specs.Request.{Said, requestSheet}
+use Rattle.request.specs.Draft.{blockBytes, ageBytes, requestBytes, requestDraft}
+use Rattle.request.proofs.Aged.{kind-listed, kind-small, aged-other, age-held, age-bound}
+use Rattle.request.proofs.Writing.{block-length, Sendable, Drafted, drafted, draft-of, heading-length, blocks-bound, request-length}
 use Rattle.request.proofs.RoundTrip.{write-accepted}
 use Rattle.basics.specs.Limits.{disksMost, blocksMost, copiesMost, requestMost}
 
-pub longest-written : (unit t n : ℕ) (ms bs : List ℕ) → requestDraft unit t n ms ≡ sheet bs → length bs ≤ requestMost
-longest-written unit t n ms bs h =
-    let d : Drafted unit t n ms bs = drafted unit t n ms bs h in
-    omega (
-      arith,
-      ap length (d .bytes),
-      request-length unit t ms refl refl refl (record { count = d .count; bytes = refl; small = blocks-bound n ms (d .blocks) }),
-      width-bounds unit,
-      width-bounds t,
-      width-top 1 (length ms) (omega (arith, d .count)) (omega (arith, d .count)),
-      blocks-bound n ms (d .blocks),
-      d .count,
-    )
+module _ (k unit t a n : ℕ) (ms bs : List ℕ) where
+  -- the bytes of the values of a draft, as they are added up
+  added : Drafted k unit t a n ms bs
+      → length bs ≡ 1 + widthOf unit + widthOf t + length (ageBytes k a) + widthOf (length ms) + length (spellAll blockBytes ms)
+  added d =
+      omega (
+        arith,
+        ap length (d .bytes),
+        request-length k unit t a ms refl (record { count = d .head .count; bytes = refl; small = blocks-bound n ms (d .blocks) }),
+        heading-length k unit t a (length ms) (kind-small k (d .head .kind)),
+      )
 
-pub longest-read : (unit t n : ℕ) (s ms : List ℕ) (e : ℕ) → Bytes s → n ≤ disksMost → requestSheet unit t n s 0 ≡ got ms e
+  pub longest-written : requestDraft k unit t a n ms ≡ sheet bs → length bs ≤ requestMost
+  longest-written h =
+      let d : Drafted k unit t a n ms bs = drafted k unit t a n ms bs h in
+      omega (
+        arith,
+        added d,
+        width-bounds unit,
+        width-bounds t,
+        age-bound k a,
+        width-top 1 (length ms) (omega (arith, d .head .count)) (omega (arith, d .head .count)),
+        blocks-bound n ms (d .blocks),
+        d .head .count,
+      )
+
+pub longest-read : (unit t n : ℕ) (s : List ℕ) (r : Said) (e : ℕ) → Bytes s → n ≤ disksMost → requestSheet unit t n s 0 ≡ got r e
     → length s ≤ requestMost
-longest-read unit t n s ms e b l h = longest-written unit t n ms s (write-accepted unit t n s ms e b l h)
+longest-read unit t n s r e b l h = longest-written (r .kind) unit t (r .age) n (r .copies) s (write-accepted unit t n s r e b l h)
 
 -- ---- one that is as long
 
@@ -59,7 +73,7 @@ full-length zero = refl
 full-length (suc q) =
     omega (arith, length-append (blockBytes 255) (spellAll blockBytes (replicate q 255)), block-length 255, eight, full-length q)
 
--- the greatest unit and tenancy have five bytes, and Q has two
+-- the greatest unit, tenancy and age have five bytes, and Q has two
 five : widthOf 4294967295 ≡ 5
 unfolding widthOf encode encodeBy pick
 five = refl
@@ -68,27 +82,40 @@ two : widthOf blocksMost ≡ 2
 unfolding widthOf encode encodeBy pick
 two = refl
 
+full : (q : ℕ) → q ≡ blocksMost → let ms : List ℕ = replicate q 255 in
+    Drafted 4 4294967295 4294967295 4294967295 disksMost ms (requestBytes 4 4294967295 4294967295 4294967295 ms)
+full q e = record {
+  head = record {
+    kind = kind-listed 4 (inr refl);
+    rented = λ z. omega arith;
+    aged = aged-other 4 4294967295 (λ z. omega arith);
+    known = λ z. omega arith;
+    within = omega arith;
+    count = omega (arith, length-replicate {A = ℕ} q 255, e);
+  };
+  blocks = full-blocks q;
+  bytes = refl;
+}
+
 full-reached : (q : ℕ) → q ≡ blocksMost → (bs : List ℕ)
-    × (requestDraft 4294967295 4294967295 disksMost (replicate q 255) ≡ sheet bs) × (length bs ≡ requestMost)
+    × (requestDraft 4 4294967295 4294967295 4294967295 disksMost (replicate q 255) ≡ sheet bs) × (length bs ≡ requestMost)
+unfolding widthOf
 full-reached q e =
-    let ms : List ℕ = replicate q 255 in
-    let long : length ms ≡ q = length-replicate q 255 in
-    let counted = full-length q in (
-      requestBytes 4294967295 4294967295 ms,
-      draft-of 4294967295 4294967295 disksMost ms (λ z. omega arith) (λ z. omega arith) (omega arith) (omega (arith, long, e))
-          ∙ checked-pass disksMost ms _ (full-blocks q),
+    let d = full q e in (
+      _,
+      draft-of _ _ _ _ _ _ _ d,
       omega (
         arith,
-        request-length 4294967295 4294967295 ms refl refl refl
-            (record { count = omega (arith, long, e); bytes = refl; small = omega (arith, counted, long) }),
+        added _ _ _ _ _ _ _ d,
         five,
+        ap length (age-held 4 4294967295 refl),
         two,
-        ap widthOf (long ∙ e),
-        counted,
+        ap widthOf (length-replicate {A = ℕ} q 255 ∙ e),
+        full-length q,
         e,
       ),
     )
 
 pub longest-reached : (bs : List ℕ)
-    × (requestDraft 4294967295 4294967295 disksMost (replicate blocksMost 255) ≡ sheet bs) × (length bs ≡ requestMost)
+    × (requestDraft 4 4294967295 4294967295 4294967295 disksMost (replicate blocksMost 255) ≡ sheet bs) × (length bs ≡ requestMost)
 longest-reached = full-reached blocksMost refl

@@ -1,31 +1,35 @@
 -- Where a read request is refused, and what is enough where 11 is told.
 --     sheet-placed, read-placed     a byte of the sheet, or its end
+--     unset-placed     10 stands at the byte after the tenancy, whatever follows it
 --     write-enough     a buffer of the length that 11 told
-use mathlib.Core.Path.{_≡_}
+use mathlib.Core.Path.{_≡_, refl}
 use mathlib.Core.Bool.{Bool}
-use mathlib.Core.List.{List, [], _∷_}
+use mathlib.Core.List.{List}
 use Prim.Native.Nat.{ℕ, _+_, _*_, _≤_}
 use native.Mathlib.Omega.{arith}
+use lib.Dec.{eqb}
 use lib.ListN.{length}
-use Rattle.basics.specs.Choice.{pick}
 use Rattle.basics.specs.Limits.{blocksMost, copiesMost}
 use Rattle.basics.proofs.Choice.{pick-elim}
 use Rattle.field.specs.declared.Fault.{Fault}
 use Rattle.field.specs.declared.Refusal.the-variants.{NoRoom}
 use Rattle.field.specs.declared.Written.the-variants.{Refused}
-use Rattle.field.specs.Send.{Draft, sheet, none, answerTo, Sent}
-use Rattle.field.specs.Sheet.{Note, got, refused, note, unplaced, Parser, andThen, _>>=_, _>>_, here, require, times}
+use Rattle.field.specs.Field.{opening as opened}
+use Rattle.field.specs.Send.{answerTo, Sent}
+use Rattle.field.specs.Sheet.{Note, got, refused, note, Parser, andThen, _>>=_, _>>_, here, require, times}
 use Rattle.field.proofs.Sends.{Roomless, sent-enough}
 use Rattle.field.proofs.Values.{between-range}
-use Rattle.field.proofs.Within.{Within, within-bind, within-then, within-bounded, within-pure, within-more, within-between, within-opening}
-use Rattle.field.proofs.Within.{within-due, within-times, within-ascending, within-whole, place-inside}
+use Rattle.field.proofs.Within.{Within, within-bind, within-then, within-known, within-bounded, within-pure, within-more, within-number}
+use Rattle.field.proofs.Within.{within-between, within-opening, within-due, within-times, within-ascending, within-whole, place-inside}
 use Rattle.request.specs.declared.Answer.the-variants.{Refused as Denied}
+use Rattle.request.specs.declared.Head.{Head}
 use Rattle.request.specs.declared.Request.{Request}
 use Rattle.request.specs.Told.{Told}
-use Rattle.request.specs.Request.{lastDisk, block, heading, requestSheet}
-use Rattle.request.specs.Draft.{checked, requestBytes, requestDraft}
+use Rattle.request.specs.Request.{kinds, lastDisk, block, opening, age, heading, body, requestSheet}
+use Rattle.request.specs.Draft.{requestDraft}
 use Rattle.request.proofs.Accepted.{refused-sheet}
-use Rattle.request.proofs.Reading.{heading-within}
+use Rattle.request.proofs.Reading.{opening-unset, heading-stops, heading-within, sheet-stops}
+use Rattle.request.proofs.Writing.{draft-elim}
 
 -- ---- the places of a sheet
 
@@ -46,19 +50,37 @@ within-tested : {A : Type 0} {k : ℕ} (b : Bool) (m : ℕ) {q : Parser A} → W
 unfolding _>>=_ _>>_ here andThen
 within-tested {k = k} b m w = within-more {j = 0 + k} (omega arith) (within-then (within-due b m) w)
 
-within-heading : (unit t n : ℕ) → Within 20 (heading unit t n)
+within-open : (unit t n : ℕ) → Within 15 (opening unit t n)
+unfolding opening
+within-open unit t n = within-bind {j = 15} {k = 0} (within-opening kinds unit t) (λ k. within-tested _ 10 (within-pure k))
+
+within-age : (k : ℕ) → Within 5 (age k)
+unfolding age
+within-age k =
+    pick-elim (λ (p : Parser ℕ). Within 5 p) (eqb k 4) _ _ (λ _. within-number) (λ _. within-more (omega arith) (within-pure 0))
+
+within-heading : (unit t n : ℕ) → Within 25 (heading unit t n)
 unfolding heading
 within-heading unit t n =
-    within-then {j = 15} (within-opening (2 ∷ []) unit t) (within-tested _ 10 (within-between 0 blocksMost 6 6))
+    within-bind {j = 15} (within-open unit t n) (λ k. within-bind {j = 5} (within-age k) (λ a.
+    within-bind {j = 5} (within-between 0 blocksMost 6 6) (λ q. within-pure _)))
 
-pub within-sheet : (unit t n : ℕ) → Within (20 + blocksMost * ((1 + copiesMost) * 5)) (requestSheet unit t n)
+within-body : (h : Head) (high : ℕ) → h .blocks ≤ blocksMost → Within (blocksMost * ((1 + copiesMost) * 5)) (body h high)
+unfolding body
+within-body h high l = within-more (omega arith) (within-bind (within-blocks (h .blocks) high l) (λ ms. within-pure _))
+
+pub within-sheet : (unit t n : ℕ) → Within (25 + blocksMost * ((1 + copiesMost) * 5)) (requestSheet unit t n)
 unfolding requestSheet
 within-sheet unit t n =
-    within-whole (within-bounded blocksMost (within-heading unit t n) (λ s at q e h. heading-within unit t n s at h)
-    (λ q l. within-blocks q (lastDisk n) l))
+    within-whole (within-known (λ h. h .blocks ≤ blocksMost) (within-heading unit t n) (λ s at h e w. heading-within unit t n s at w)
+    (λ h l. within-body h (lastDisk n) l))
 
 pub sheet-placed : (unit t n : ℕ) (s : List ℕ) {m : Note} → requestSheet unit t n s 0 ≡ refused m → m .place ≤ length s
 sheet-placed unit t n s h = place-inside (within-sheet unit t n) h
+
+-- a unit without settings refuses behind the tenancy, before it looks at an age
+pub unset-placed : (unit t : ℕ) (s : List ℕ) {k e : ℕ} → opened kinds unit t s 0 ≡ got k e → requestSheet unit t 0 s 0 ≡ refused (note 10 e)
+unset-placed unit t s h = sheet-stops unit t 0 s (heading-stops unit t 0 s (opening-unset unit t 0 s h refl))
 
 -- the same of what `read` answers
 pub read-placed : (unit t n : ℕ) (s : List ℕ) {k : ℕ} {r : Request} {f : Fault} → Told k (requestSheet unit t n s 0) r
@@ -67,33 +89,11 @@ read-placed unit t n s {k} {r} {f} w h = sheet-placed unit t n s (refused-sheet 
 
 -- ---- what is enough
 
-roomless-none : (e : Note) → (e .number ≡ 11 → ⊥) → Roomless (none e)
-unfolding Roomless
-roomless-none e h = h
-
--- a test that refuses, not for want of room, before what is no want of room either
-roomless-test : (b : Bool) (e : Note) (d : Draft) → (e .number ≡ 11 → ⊥) → Roomless d → Roomless (pick b (none e) d)
-roomless-test b e d h r = pick-elim Roomless b _ _ (λ _. roomless-none e h) (λ _. r)
-
-roomless-checked : (n : ℕ) (ms : List ℕ) (d : Draft) → Roomless d → Roomless (checked n ms d)
-unfolding checked
-roomless-checked n [] d r = r
-roomless-checked n (m ∷ ms) d r =
-    roomless-test _ _ _ (λ z. absurd (omega (arith, z))) (roomless-test _ _ _ (λ z. absurd (omega (arith, z)))
-    (roomless-test _ _ _ (λ z. absurd (omega (arith, z))) (roomless-checked n ms d r)))
-
-module _ (unit t n : ℕ) (ms : List ℕ) where
-  roomless-sheet : Roomless (sheet (requestBytes unit t ms))
+module _ (k unit t a n : ℕ) (ms : List ℕ) where
+  roomless : Roomless (requestDraft k unit t a n ms)
   unfolding Roomless
-  roomless-sheet = tt
+  roomless = draft-elim Roomless (λ m own. own .1) k unit t a n ms tt
 
-  roomless : Roomless (requestDraft unit t n ms)
-  unfolding requestDraft
-  roomless =
-      roomless-test _ _ _ (λ z. absurd (omega (arith, z))) (roomless-test _ _ _ (λ z. absurd (omega (arith, z)))
-      (roomless-test _ _ _ (λ z. absurd (omega (arith, z))) (roomless-test _ _ _ (λ z. absurd (omega (arith, z)))
-      (roomless-checked n ms _ roomless-sheet))))
-
-  pub write-enough : (out out′ : List ℕ) (f : Fault) (after : List ℕ) → Sent (requestDraft unit t n ms) out (Refused f) after
-      → f .refusal ≡ NoRoom → f .place ≤ length out′ → answerTo (requestDraft unit t n ms) out′ ≡ got tt (f .place)
-  write-enough out out′ f after w q l = sent-enough (requestDraft unit t n ms) out out′ f after roomless w q l
+  pub write-enough : (out out′ : List ℕ) (f : Fault) (after : List ℕ) → Sent (requestDraft k unit t a n ms) out (Refused f) after
+      → f .refusal ≡ NoRoom → f .place ≤ length out′ → answerTo (requestDraft k unit t a n ms) out′ ≡ got tt (f .place)
+  write-enough out out′ f after w q l = sent-enough (requestDraft k unit t a n ms) out out′ f after roomless w q l

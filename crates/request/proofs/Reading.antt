@@ -3,16 +3,20 @@
 --     gather-done, gather-step, gather-stop                the disks of a block, one by one
 --     Gathering                                            as a loop: the disks read so far are in m, the rest is still to be read
 --     block-of, block-stops                                a block, by its copy count
---     heading-stops, heading-unset, heading-count          the fields before the blocks, by where they stop
+--     head-got, head-refused                               what an answer told of the heading
+--     opening-stops, opening-unset, opening-known          kind, unit, tenancy and settings, by where they stop
+--     age-four, age-none                                   the age, by the kind
+--     heading-stops, heading-age, heading-count, heading-of     the fields before the blocks, by where they stop
+--     said                                                 what a request says, of these values
 --     Filling, filling-start, filling-step, filling-stop, filling-extra, filling-done    the blocks, as a loop
 --     sheet-next, sheet-stops, answered-of, answered-sheet the whole sheet
 --     Listed, Headed, Whole, block-got, heading-got, sheet-got     what an accepted block, heading or sheet says of each part
 use mathlib.Core.Path.{_≡_, refl, sym, ap, _∙_, subst, subst⁻¹}
 use mathlib.Core.Bool.{true, _||_}
-use mathlib.Core.List.{List, [], _∷_}
+use mathlib.Core.List.{List, _∷_}
 use Prim.Native.Nat.{ℕ, suc, _+_, _-_, _^_, _≤_, _<_}
 use native.Mathlib.Omega.{arith}
-use borrow.Author.Tests.{lt-ltb, le-ltb, ltb-true}
+use borrow.Author.Tests.{eq-eqb, ne-eqb, lt-ltb, le-ltb, ltb-true}
 use lib.Dec.{eqb, ltb, lit<}
 use lib.ListN.{length, replicate, take, drop, set, length-set, length-replicate, getD}
 use lib.Seq.{length-take-le, take-suc-set, drop-set-lt, drop-drop}
@@ -20,19 +24,22 @@ use Rattle.basics.proofs.Choice.{pick-true, pick-false, pick-elim}
 use Rattle.field.specs.declared.Fault.{Fault}
 use Rattle.field.specs.Refusal.{noteOf}
 use Rattle.field.specs.Sheet.{Note, Out, got, refused, note, Parser, andThen, _>>=_, _>>_, pure, here, require, times}
-use Rattle.field.specs.Field.{number, between, opening, inside, rising, ascending, end, whole}
-use Rattle.field.proofs.Sheet.{next, then, stops, halts, pass, fail, at-here, Step, bind-got, after-got, passed, pure-got}
+use Rattle.field.specs.Field.{number, between, opening as opened, inside, rising, ascending, end, whole}
+use Rattle.field.proofs.Sheet.{next, then, stops, halts, pass, fail, at-here, Step, bind-got, passed, pure-got}
 use Rattle.field.proofs.Values.{between-within, between-range}
 use Rattle.field.proofs.Lists.{prefix, times-start, times-step, times-stop, times-done}
-use Rattle.field.proofs.Whole.{whole-next, whole-stops, whole-got, end-place}
+use Rattle.field.proofs.Whole.{whole-next, whole-stops, whole-refused, whole-got, end-place}
 use Rattle.request.specs.declared.Answer.the-variants.{Accepted}
 use Rattle.request.specs.declared.Copies.{Copies}
 use Rattle.request.specs.declared.Copies.the-variants.{Got, Refused as NoBlock}
+use Rattle.request.specs.declared.Head.{Head}
+use Rattle.request.specs.declared.HeadRead.{HeadRead}
+use Rattle.request.specs.declared.HeadRead.the-variants.{Got as GotHead, Refused as NoHead}
 use Rattle.request.specs.declared.Request.{Request}
 use Rattle.request.specs.Disks.{maskOf}
-use Rattle.request.specs.Request.{lastDisk, block, heading, requestSheet}
-use Rattle.request.specs.Parts.{toldCopies, masked, Beyond}
-use Rattle.request.specs.Told.{toldAnswer, counted, copiesOf, Told}
+use Rattle.request.specs.Request.{kinds, Said, lastDisk, block, opening, age, heading, body, requestSheet}
+use Rattle.request.specs.Parts.{toldHead, toldCopies, masked, Beyond}
+use Rattle.request.specs.Told.{toldAnswer, counted, kindIn, ageIn, copiesOf, Told}
 use Rattle.basics.specs.Limits.{disksMost, blocksMost, copiesMost}
 use Rattle.basics.proofs.Padded.{pad-whole}
 use Rattle.mask.specs.Has.{has}
@@ -198,42 +205,104 @@ block-got high s at m e h =
 
 -- ---- the fields before the blocks
 
+-- what an answer told of them
+pub head-got : {f : HeadRead} {o : Out Head} {h : Head} {e : ℕ} → toldHead f ≡ o → f ≡ GotHead h e → o ≡ got h e
+unfolding toldHead
+head-got t q = sym t ∙ ap toldHead q
+
+pub head-refused : {f : HeadRead} {o : Out Head} {r : Fault} → toldHead f ≡ o → f ≡ NoHead r → o ≡ refused (noteOf r)
+unfolding toldHead
+head-refused t q = sym t ∙ ap toldHead q
+
 module _ (unit t n : ℕ) (s : List ℕ) where
-  pub heading-stops : {m : Note} → opening (2 ∷ []) unit t s 0 ≡ refused m → heading unit t n s 0 ≡ refused m
+  pub opening-stops : {m : Note} → opened kinds unit t s 0 ≡ refused m → opening unit t n s 0 ≡ refused m
+  unfolding opening
+  opening-stops h = stops (opened kinds unit t) _ s 0 h
+
+  module _ {k e : ℕ} (h : opened kinds unit t s 0 ≡ got k e) where
+    pub opening-unset : n ≡ 0 → opening unit t n s 0 ≡ refused (note 10 e)
+    unfolding opening
+    opening-unset z = next (opened kinds unit t) _ s 0 h ∙ at-here _ s e ∙ fail (note 10 e) _ s e (le-ltb 0 n (omega arith))
+
+    pub opening-known : (n ≡ 0 → ⊥) → opening unit t n s 0 ≡ got k e
+    unfolding opening pure
+    opening-known z = next (opened kinds unit t) _ s 0 h ∙ at-here _ s e ∙ pass (note 10 e) _ s e (lt-ltb 0 n (omega arith))
+
+module _ (k : ℕ) (s : List ℕ) (at : ℕ) where
+  pub age-four : k ≡ 4 → age k s at ≡ number s at
+  unfolding age
+  age-four z = ap (λ (p : Parser ℕ). p s at) (pick-true number (pure 0) (eq-eqb k 4 z))
+
+  pub age-none : (k ≡ 4 → ⊥) → age k s at ≡ got 0 at
+  unfolding age pure
+  age-none z = ap (λ (p : Parser ℕ). p s at) (pick-false number (pure 0) (ne-eqb k 4 z))
+
+module _ (unit t n : ℕ) (s : List ℕ) where
+  pub heading-stops : {m : Note} → opening unit t n s 0 ≡ refused m → heading unit t n s 0 ≡ refused m
   unfolding heading
-  heading-stops h = halts (opening (2 ∷ []) unit t) _ s 0 h
+  heading-stops h = stops (opening unit t n) _ s 0 h
 
-  module _ {v e : ℕ} (h : opening (2 ∷ []) unit t s 0 ≡ got v e) where
-    pub heading-unset : n ≡ 0 → heading unit t n s 0 ≡ refused (note 10 e)
+  module _ {k i : ℕ} (h : opening unit t n s 0 ≡ got k i) where
+    pub heading-age : {m : Note} → age k s i ≡ refused m → heading unit t n s 0 ≡ refused m
     unfolding heading
-    heading-unset z = then (opening (2 ∷ []) unit t) _ s 0 h ∙ at-here _ s e ∙ fail (note 10 e) _ s e (le-ltb 0 n (omega arith))
+    heading-age g = next (opening unit t n) _ s 0 h ∙ stops (age k) _ s i g
 
-    pub heading-count : (n ≡ 0 → ⊥) → {o : Out ℕ} → o ≡ inside 0 blocksMost 6 s e → o ≡ heading unit t n s 0
-    unfolding heading
-    heading-count z g =
-        g ∙ sym (then (opening (2 ∷ []) unit t) _ s 0 h ∙ at-here _ s e ∙ pass (note 10 e) _ s e (lt-ltb 0 n (omega arith)))
+    module _ {a j : ℕ} (g : age k s i ≡ got a j) where
+      pub heading-count : {m : Note} → inside 0 blocksMost 6 s j ≡ refused m → heading unit t n s 0 ≡ refused m
+      unfolding heading
+      heading-count c = next (opening unit t n) _ s 0 h ∙ next (age k) _ s i g ∙ stops (inside 0 blocksMost 6) _ s j c
 
--- what an accepted heading says of each part
-pub record Headed (unit t n : ℕ) (s : List ℕ) (at q e : ℕ) : Type 0 where
-  pub lease : ℕ
+      pub heading-of : {q e : ℕ} → inside 0 blocksMost 6 s j ≡ got q e
+          → heading unit t n s 0 ≡ got (record { kind = k; age = a; blocks = q }) e
+      unfolding heading pure
+      heading-of c = next (opening unit t n) _ s 0 h ∙ next (age k) _ s i g ∙ next (inside 0 blocksMost 6) _ s j c
+
+-- what an accepted heading says of each part: the age stands at `mid`, Q at `next`
+pub record Headed (unit t n : ℕ) (s : List ℕ) (at : ℕ) (h : Head) (e : ℕ) : Type 0 where
   pub mid : ℕ
-  pub first : opening (2 ∷ []) unit t s at ≡ got lease mid
+  pub next : ℕ
+  pub first : opened kinds unit t s at ≡ got (h .kind) mid
   pub known : ltb 0 n ≡ true
-  pub last : inside 0 blocksMost 6 s mid ≡ got q e
+  pub aged : age (h .kind) s mid ≡ got (h .age) next
+  pub last : inside 0 blocksMost 6 s next ≡ got (h .blocks) e
 
-pub heading-got : (unit t n : ℕ) (s : List ℕ) (at q e : ℕ) → heading unit t n s at ≡ got q e → Headed unit t n s at q e
+record Opened (unit t n : ℕ) (s : List ℕ) (at k e : ℕ) : Type 0 where
+  first : opened kinds unit t s at ≡ got k e
+  known : ltb 0 n ≡ true
+
+opening-got : (unit t n : ℕ) (s : List ℕ) (at k e : ℕ) → opening unit t n s at ≡ got k e → Opened unit t n s at k e
+unfolding opening
+opening-got unit t n s at k e h =
+    let due : ℕ → Parser ℕ = λ k. here >>= λ at. require (ltb 0 n) (note 10 at) >> pure k in
+    let f : Step (opened kinds unit t s at) (λ k m. due k s m) k e = bind-got (opened kinds unit t) s at k e due h in
+    let g : (ltb 0 n ≡ true) × (pure (f .found) s (f .mid) ≡ got k e) =
+    passed (ltb 0 n) (note 10 (f .mid)) (pure (f .found)) s (f .mid) k e (sym (at-here _ s (f .mid)) ∙ f .last) in
+    let p : (f .found ≡ k) × (f .mid ≡ e) = pure-got (f .found) k s (f .mid) e (g .1) in
+    record { first = f .first ∙ ap (λ (x : ℕ). got x (f .mid)) (p .0) ∙ ap (got k) (p .1); known = g .0 }
+
+pub heading-got : (unit t n : ℕ) (s : List ℕ) (at : ℕ) (h : Head) (e : ℕ) → heading unit t n s at ≡ got h e → Headed unit t n s at h e
 unfolding heading
-heading-got unit t n s at q e h =
-    let due : Parser ℕ = here >>= λ at. require (ltb 0 n) (note 10 at) >> inside 0 blocksMost 6 in
-    let f : Step (opening (2 ∷ []) unit t s at) (λ _ m. due s m) q e = after-got (opening (2 ∷ []) unit t) s at q e due h in
-    let j : (ltb 0 n ≡ true) × (inside 0 blocksMost 6 s (f .mid) ≡ got q e) =
-    passed (ltb 0 n) (note 10 (f .mid)) (inside 0 blocksMost 6) s (f .mid) q e (sym (at-here _ s (f .mid)) ∙ f .last) in
-    record { lease = f .found; mid = f .mid; first = f .first; known = j .0; last = j .1 }
+heading-got unit t n s at h e w =
+    let made : ℕ → ℕ → ℕ → Parser Head = λ k a q. pure (record { kind = k; age = a; blocks = q }) in
+    let count : ℕ → ℕ → Parser Head = λ k a. inside 0 blocksMost 6 >>= made k a in
+    let f = bind-got (opening unit t n) s at h e (λ k. age k >>= count k) w in
+    let o : Opened unit t n s at (f .found) (f .mid) = opening-got unit t n s at (f .found) (f .mid) (f .first) in
+    let g = bind-got (age (f .found)) s (f .mid) h e (count (f .found)) (f .last) in
+    let c = bind-got (inside 0 blocksMost 6) s (g .mid) h e (made (f .found) (g .found)) (g .last) in
+    let p = pure-got _ h s (c .mid) e (c .last) in
+    subst (λ (x : Head). Headed unit t n s at x e) (p .0) (record {
+      mid = f .mid;
+      next = g .mid;
+      first = o .first;
+      known = o .known;
+      aged = g .first;
+      last = c .first ∙ ap (got (c .found)) (p .1);
+    })
 
 -- Q is in its range
-pub heading-within : (unit t n : ℕ) (s : List ℕ) (at : ℕ) {q e : ℕ} → heading unit t n s at ≡ got q e → q ≤ blocksMost
-heading-within unit t n s at {q} {e} h = let g : Headed unit t n s at q e = heading-got unit t n s at q e h in
-    between-range 0 blocksMost 6 6 s (g .mid) (g .last) .1
+pub heading-within : (unit t n : ℕ) (s : List ℕ) (at : ℕ) {h : Head} {e : ℕ} → heading unit t n s at ≡ got h e → h .blocks ≤ blocksMost
+heading-within unit t n s at {h} {e} w =
+    let g : Headed unit t n s at h e = heading-got unit t n s at h e w in between-range 0 blocksMost 6 6 s (g .next) (g .last) .1
 
 -- ---- the blocks
 
@@ -253,44 +322,60 @@ module _ (q high : ℕ) (s : List ℕ) (at : ℕ) where
   filling-start = record
       { within = omega arith; long = length-replicate {A = ℕ} blocksMost 0; rest = refl; held = times-start (block high) s q at }
 
-  module _ (copies : List ℕ) (p i : ℕ) (f : Filling q high s at copies p i) where
-    pub filling-step : {m e : ℕ} → i < q → q ≤ blocksMost → block high s p ≡ got m e → Filling q high s at (set copies i m) e (i + 1)
-    filling-step {m} {e} l b h =
-        let room : i < length copies = omega (arith, f .long) in
-        record {
-          within = omega arith;
-          long = length-set copies i m ∙ f .long;
-          rest = drop-set-lt (i + 1) copies i m (omega arith) ∙ sym (drop-drop 1 i copies) ∙ ap (drop 1) (f .rest)
-              ∙ drop-zeros i (omega arith);
-          held = f .held ∙ times-step (block high) s q i p (take i copies) l h
-              ∙ ap (λ (x : List ℕ). prefix x (times (q - (i + 1)) (block high) s e)) (sym (take-suc-set copies i m room)
-              ∙ ap (λ (k : ℕ). take k (set copies i m)) {x = suc i} {y = i + 1} (omega arith));
-        }
+  pub filling-step : (copies : List ℕ) (p i : ℕ) → Filling q high s at copies p i → {m e : ℕ} → i < q → q ≤ blocksMost
+      → block high s p ≡ got m e → Filling q high s at (set copies i m) e (i + 1)
+  filling-step copies p i f {m} {e} l b h =
+      let room : i < length copies = omega (arith, f .long) in
+      record {
+        within = omega arith;
+        long = length-set copies i m ∙ f .long;
+        rest = drop-set-lt (i + 1) copies i m (omega arith) ∙ sym (drop-drop 1 i copies) ∙ ap (drop 1) (f .rest)
+            ∙ drop-zeros i (omega arith);
+        held = f .held ∙ times-step (block high) s q i p (take i copies) l h
+            ∙ ap (λ (x : List ℕ). prefix x (times (q - (i + 1)) (block high) s e)) (sym (take-suc-set copies i m room)
+            ∙ ap (λ (k : ℕ). take k (set copies i m)) {x = suc i} {y = i + 1} (omega arith));
+      }
 
-    pub filling-stop : {n : Note} → i < q → block high s p ≡ refused n → whole (times q (block high)) s at ≡ refused n
-    unfolding whole
-    filling-stop l h = stops (times q (block high)) _ s at (f .held ∙ times-stop (block high) s q i p (take i copies) l h)
+-- what a request of these values says
+abbrev pub said : ℕ → ℕ → List ℕ → Said
+said k a ms = record { kind = k; age = a; copies = ms }
 
-    all-read : q ≤ i → times q (block high) s at ≡ got (take q copies) p
+module _ (h : Head) (high : ℕ) (s : List ℕ) (at : ℕ) where
+  body-of : {ms : List ℕ} {e : ℕ} → times (h .blocks) (block high) s at ≡ got ms e → body h high s at ≡ got (said (h .kind) (h .age) ms) e
+  unfolding body pure
+  body-of w = next (times (h .blocks) (block high)) _ s at w
+
+  body-stops : {n : Note} → times (h .blocks) (block high) s at ≡ refused n → whole (body h high) s at ≡ refused n
+  unfolding body
+  body-stops w = whole-refused (body h high) s at (stops (times (h .blocks) (block high)) _ s at w)
+
+  module _ (copies : List ℕ) (p i : ℕ) (f : Filling (h .blocks) high s at copies p i) where
+    pub filling-stop : {n : Note} → i < h .blocks → block high s p ≡ refused n → whole (body h high) s at ≡ refused n
+    filling-stop l w = body-stops (f .held ∙ times-stop (block high) s (h .blocks) i p (take i copies) l w)
+
+    all-read : h .blocks ≤ i → body h high s at ≡ got (said (h .kind) (h .age) (take (h .blocks) copies)) p
     all-read l =
-        let e : i ≡ q = omega (arith, f .within) in
-        f .held ∙ times-done (block high) s q i p (take i copies) l ∙ ap (λ (k : ℕ). got (take k copies) p) e
+        let e : i ≡ h .blocks = omega (arith, f .within) in
+        body-of (f .held ∙ times-done (block high) s (h .blocks) i p (take i copies) l ∙ ap (λ (k : ℕ). got (take k copies) p) e)
 
-    pub filling-extra : {n : Note} → q ≤ i → end s p ≡ refused n → whole (times q (block high)) s at ≡ refused n
+    pub filling-extra : {n : Note} → h .blocks ≤ i → end s p ≡ refused n → whole (body h high) s at ≡ refused n
     unfolding whole
-    filling-extra l h = next (times q (block high)) _ s at (all-read l) ∙ halts end _ s p h
+    filling-extra l w = next (body h high) _ s at (all-read l) ∙ halts end _ s p w
 
-    pub filling-done : {v e : ℕ} (r : Request) → r .answer ≡ Accepted q → r .copies ≡ copies → q ≤ i → q ≤ blocksMost → end s p ≡ got v e
-        → Told (length s) (whole (times q (block high)) s at) r
-    unfolding whole pure toldAnswer counted copiesOf
-    filling-done {v} {e} r a b l small h =
+    pub filling-done : {v e : ℕ} (r : Request) → r .answer ≡ Accepted (h .blocks) → r .kind ≡ h .kind → r .age ≡ h .age → r .copies ≡ copies
+        → h .blocks ≤ i → h .blocks ≤ blocksMost → end s p ≡ got v e → Told (length s) (whole (body h high) s at) r
+    unfolding whole pure toldAnswer counted kindIn ageIn copiesOf
+    filling-done {v} {e} r a k g b l small w =
+        let q = h .blocks in
         let n : length (take q copies) ≡ q = length-take-le q copies (omega (arith, f .long)) in
-        let o : whole (times q (block high)) s at ≡ got (take q copies) e =
-        next (times q (block high)) _ s at (all-read l) ∙ then end _ s p h in
+        let o : whole (body h high) s at ≡ got (said (h .kind) (h .age) (take q copies)) e =
+        next (body h high) _ s at (all-read l) ∙ then end _ s p w in
         let i≡q : i ≡ q = omega (arith, f .within) in
         record {
-          told = ap (toldAnswer (length s)) a ∙ ap (got q) (sym (end-place s p v e h))
+          told = ap (toldAnswer (length s)) a ∙ ap (got q) (sym (end-place s p v e w))
               ∙ ap (λ (k : ℕ). got k e) (sym n) ∙ sym (ap counted o);
+          kind = k ∙ sym (ap kindIn o);
+          age = g ∙ sym (ap ageIn o);
           held = b ∙ pad-whole 0 blocksMost copies q n (subst (λ (k : ℕ). drop k copies ≡ replicate (blocksMost - k) 0) i≡q (f .rest))
               ∙ sym (ap copiesOf o);
         }
@@ -298,46 +383,46 @@ module _ (q high : ℕ) (s : List ℕ) (at : ℕ) where
 -- ---- the whole sheet
 
 -- what is told of a refusal is told of a sheet that is refused so
-pub answered-of : {len : ℕ} {n : Note} {o : Out (List ℕ)} {r : Request} → o ≡ refused n → Told len (refused n) r → Told len o r
-answered-of {len} {n} {o} {r} h a = subst (λ (x : Out (List ℕ)). Told len x r) (sym h) a
+pub answered-of : {len : ℕ} {n : Note} {o : Out Said} {r : Request} → o ≡ refused n → Told len (refused n) r → Told len o r
+answered-of {len} {n} {o} {r} h a = subst (λ (x : Out Said). Told len x r) (sym h) a
 
 module _ (unit t n : ℕ) (s : List ℕ) where
-  pub sheet-next : {q e : ℕ} → heading unit t n s 0 ≡ got q e → requestSheet unit t n s 0 ≡ whole (times q (block (lastDisk n))) s e
+  pub sheet-next : {h : Head} {e : ℕ} → heading unit t n s 0 ≡ got h e → requestSheet unit t n s 0 ≡ whole (body h (lastDisk n)) s e
   unfolding requestSheet
-  sheet-next h = whole-next (heading unit t n) (λ q. times q (block (lastDisk n))) s 0 h
+  sheet-next w = whole-next (heading unit t n) (λ h. body h (lastDisk n)) s 0 w
 
   pub sheet-stops : {m : Note} → heading unit t n s 0 ≡ refused m → requestSheet unit t n s 0 ≡ refused m
   unfolding requestSheet
-  sheet-stops h = whole-stops (heading unit t n) (λ q. times q (block (lastDisk n))) s 0 h
+  sheet-stops w = whole-stops (heading unit t n) (λ h. body h (lastDisk n)) s 0 w
 
 -- the blocks of a sheet whose heading was accepted
-pub answered-sheet : (unit t n : ℕ) (s : List ℕ) {q e high : ℕ} {r : Request} → heading unit t n s 0 ≡ got q e → high ≡ lastDisk n
-    → Told (length s) (whole (times q (block high)) s e) r → Told (length s) (requestSheet unit t n s 0) r
-answered-sheet unit t n s {q} {e} {high} {r} h l a =
-    subst (λ (x : Out (List ℕ)). Told (length s) x r) (ap (λ (k : ℕ). whole (times q (block k)) s e) l
-    ∙ sym (sheet-next unit t n s h)) a
+pub answered-sheet : (unit t n : ℕ) (s : List ℕ) {h : Head} {e high : ℕ} {r : Request} → heading unit t n s 0 ≡ got h e → high ≡ lastDisk n
+    → Told (length s) (whole (body h high) s e) r → Told (length s) (requestSheet unit t n s 0) r
+answered-sheet unit t n s {h} {e} {high} {r} w l a =
+    subst (λ (x : Out Said). Told (length s) x r) (ap (λ (k : ℕ). whole (body h k) s e) l ∙ sym (sheet-next unit t n s w)) a
 
 -- what an accepted sheet says of its two parts
-pub record Whole (unit t n : ℕ) (s ms : List ℕ) (e : ℕ) : Type 0 where
+pub record Whole (unit t n : ℕ) (s : List ℕ) (r : Said) (e : ℕ) : Type 0 where
   pub count : ℕ
   pub mid : ℕ
-  pub headed : Headed unit t n s 0 count mid
+  pub headed : Headed unit t n s 0 (record { kind = r .kind; age = r .age; blocks = count }) mid
   pub small : count ≤ blocksMost
-  pub rest : times count (block (lastDisk n)) s mid ≡ got ms e
+  pub rest : times count (block (lastDisk n)) s mid ≡ got (r .copies) e
   pub ends : e ≡ length s
 
-pub sheet-got : (unit t n : ℕ) (s ms : List ℕ) (e : ℕ) → requestSheet unit t n s 0 ≡ got ms e → Whole unit t n s ms e
-unfolding requestSheet
-sheet-got unit t n s ms e h =
-    let w : ((heading unit t n >>= λ q. times q (block (lastDisk n))) s 0 ≡ got ms e)
-    × (e ≡ length s) = whole-got (heading unit t n >>= λ q. times q (block (lastDisk n))) s ms e h in
-    let f : Step (heading unit t n s 0) (λ q j. times q (block (lastDisk n)) s j) ms e =
-    bind-got (heading unit t n) s 0 ms e (λ q. times q (block (lastDisk n))) (w .0) in
-    record {
-      count = f .found;
+pub sheet-got : (unit t n : ℕ) (s : List ℕ) (r : Said) (e : ℕ) → requestSheet unit t n s 0 ≡ got r e → Whole unit t n s r e
+unfolding requestSheet body
+sheet-got unit t n s r e h =
+    let w = whole-got (heading unit t n >>= λ h. body h (lastDisk n)) s r e h in
+    let f = bind-got (heading unit t n) s 0 r e (λ h. body h (lastDisk n)) (w .0) in
+    let made : List ℕ → Said = λ ms. said (f .found .kind) (f .found .age) ms in
+    let g = bind-got (times (f .found .blocks) (block (lastDisk n))) s (f .mid) r e (λ ms. pure (made ms)) (f .last) in
+    let p : (made (g .found) ≡ r) × (g .mid ≡ e) = pure-got (made (g .found)) r s (g .mid) e (g .last) in
+    subst (λ (x : Said). Whole unit t n s x e) (p .0) (record {
+      count = f .found .blocks;
       mid = f .mid;
       headed = heading-got unit t n s 0 (f .found) (f .mid) (f .first);
       small = heading-within unit t n s 0 (f .first);
-      rest = f .last;
+      rest = g .first ∙ ap (got (g .found)) (p .1);
       ends = w .1;
-    }
+    })

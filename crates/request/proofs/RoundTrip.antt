@@ -1,38 +1,45 @@
 -- Reading what was written, and writing what was read.
---     reads-sheet           the bytes of a draft are read as its copies
---     read-written          reading what the writer wrote gives the same copies
+--     reads-request         the bytes of a request are read as its kind, age and copies
+--     same-but-kind         with age 0 kind 2 and kind 4 say the same age and the same copies
+--     reads-sheet           the bytes of a draft are read as the values that it was made of
+--     read-written          reading what the writer wrote gives the same kind, age and copies
 --     write-accepted, written-accepted     writing what the reader accepted gives the same bytes
 use mathlib.Core.Path.{_≡_, refl, sym, ap, _∙_, subst}
+use mathlib.Core.Bool.{true}
+use mathlib.Core.Logic.{inl, inr, ⊎-elim}
 use mathlib.Core.List.{List, [], _∷_, _++_}
 use Prim.Native.Nat.{ℕ, _+_, _^_, _≤_, _<_}
 use native.Mathlib.Omega.{arith}
-use borrow.Author.Tests.{lt-ltb, le-leb, ltb-true}
+use borrow.Author.Tests.{lt-ltb, le-leb, eqb-false, ltb-true}
+use lib.Dec.{eqb}
 use lib.ListN.{length, take}
 use Rattle.number.specs.Bytes.{Bytes}
 use Rattle.number.specs.Encode.{encode}
 use Rattle.field.specs.declared.Written.{Written}
 use Rattle.field.specs.declared.Written.the-variants.{Length}
-use Rattle.field.specs.Sheet.{got, refused, note, _>>=_, times}
-use Rattle.field.specs.Field.{whole}
+use Rattle.field.specs.Sheet.{got, refused, note, pure}
 use Rattle.field.specs.Put.{spellAll, openingBytes}
 use Rattle.basics.specs.Buffer.{over}
+use Rattle.basics.specs.Choice.{pick}
 use Rattle.basics.proofs.Choice.{pick-true}
+use Rattle.basics.proofs.Tests.{by-cases}
 use Rattle.field.specs.Send.{Draft, sheet, none, toldWritten, answerTo, leftBy, Sent}
 use Rattle.field.proofs.Sends.{sent-bytes, written-injective}
-use Rattle.field.proofs.Read.{Reads, reads-bind, reads-then, reads-pure, reads-here, reads-require, reads-tested, reads-checked}
+use Rattle.field.proofs.Read.{Reads, reads-bind, reads-pure, reads-here, reads-require, reads-tested, reads-checked, reads-number}
 use Rattle.field.proofs.Read.{reads-between, reads-whole}
 use Rattle.field.proofs.Spelt.{Spelt, spelt-join, spelt-whole, number-spelt, between-spelt}
-use Rattle.basics.proofs.Lists.{one-listed}
-use Rattle.field.proofs.Opened.{reads-opening, opening-one}
-use Rattle.basics.specs.Lists.{All, Rises}
+use Rattle.field.proofs.Opened.{reads-opening, opening-spelt, opening-tenancy}
+use Rattle.basics.specs.Lists.{All, Rises, listed}
 use Rattle.field.proofs.Lists.{reads-times, reads-ascending, times-spelt, ascending-spelt}
+use Rattle.request.specs.declared.Head.{Head}
 use Rattle.request.specs.Disks.{maskOf, disksOf}
-use Rattle.request.specs.Request.{lastDisk, block, heading, requestSheet}
-use Rattle.request.specs.Draft.{blockBytes, headingBytes, requestBytes, requestDraft}
+use Rattle.request.specs.Request.{kinds, Said, lastDisk, block, opening, age, heading, body, requestSheet}
+use Rattle.request.specs.Draft.{blockBytes, ageBytes, headingBytes, requestBytes, aged, requestDraft}
+use Rattle.request.proofs.Aged.{kind-either, kind-listed, kind-small, aged-two, aged-zero, aged-other}
 use Rattle.request.proofs.Disks.{lt-up, mask-all, disks-mask, disks-rise}
-use Rattle.request.proofs.Reading.{last-under, Listed, block-got, Headed, Whole, sheet-got}
-use Rattle.request.proofs.Accepted.{last-of, count-of, block-sendable}
-use Rattle.request.proofs.Writing.{Sendable, checked-pass, Drafted, drafted, draft-of}
+use Rattle.request.proofs.Reading.{last-under, said, Listed, block-got, Headed, Whole, sheet-got}
+use Rattle.request.proofs.Accepted.{last-of, count-of, block-sendable, said-kind, said-age-none, age-spelt}
+use Rattle.request.proofs.Writing.{HeadingFits, Sendable, Drafted, drafted, draft-of}
 use Rattle.basics.specs.Limits.{disksMost, blocksMost, copiesMost}
 
 -- ---- reading what was written
@@ -42,6 +49,13 @@ no-disks : (ds : List ℕ) → length ds ≡ 0 → maskOf ds ≡ 0
 unfolding maskOf
 no-disks [] h = refl
 no-disks (d ∷ ds) h = absurd (omega arith)
+
+-- of a kind without the field the age is 0
+reads-age : (k a : ℕ) → a < 2 ^ 32 → ((k ≡ 4 → ⊥) → a ≡ 0) → Reads (age k) (ageBytes k a) a
+unfolding age ageBytes pick
+reads-age k a h z =
+    by-cases (eqb k 4) (λ t. rw t (reads-number a h))
+    (λ f. rw f (subst (λ (x : ℕ). Reads (pure 0) [] x) (sym (z (eqb-false k 4 f))) (reads-pure 0)))
 
 module _ (n : ℕ) (known : n ≡ 0 → ⊥) (within : n ≤ disksMost) where
   reads-block : (m : ℕ) → Sendable n m → Reads (block (lastDisk n)) (blockBytes m) m
@@ -58,24 +72,60 @@ module _ (n : ℕ) (known : n ≡ 0 → ⊥) (within : n ≤ disksMost) where
       (disks-rise (lastDisk n) m (last-under n) top))
       (reads-pure (maskOf (disksOf m)))))
 
-  reads-heading : (unit t q : ℕ) → unit < 2 ^ 32 → t < 2 ^ 32 → 0 < t → q ≤ blocksMost → Reads (heading unit t n) (headingBytes unit t q) q
-  unfolding heading headingBytes
-  reads-heading unit t q hu ht pt hq =
-      reads-then (reads-opening unit t hu pt ht (2 ∷ []) 2 (one-listed 2) (omega arith))
-      (reads-here _ λ at. reads-tested (reads-require (note 10 at) (lt-ltb 0 n (omega (arith, known))))
-      (reads-between 0 blocksMost 6 6 q (omega arith) hq (omega arith)))
+  reads-body : (h : Head) (ms : List ℕ) → h .blocks ≡ length ms → All (Sendable n) ms
+      → Reads (body h (lastDisk n)) (spellAll blockBytes ms) (said (h .kind) (h .age) ms)
+  unfolding body
+  reads-body h ms e each =
+      rw e (reads-checked _ (reads-times (block (lastDisk n)) blockBytes (Sendable n) reads-block ms each) (reads-pure _))
 
--- the bytes of a draft are read as its copies
-pub reads-sheet : (unit t n : ℕ) (ms bs : List ℕ) → unit < 2 ^ 32 → t < 2 ^ 32 → requestDraft unit t n ms ≡ sheet bs
-    → requestSheet unit t n bs 0 ≡ got ms (length bs)
+module _ (k unit t a n q : ℕ) (u : unit < 2 ^ 32) (v : t < 2 ^ 32) (w : a < 2 ^ 32) (h : HeadingFits k t a n q) where
+  reads-open : Reads (opening unit t n) (openingBytes k unit t) k
+  unfolding opening
+  reads-open =
+      reads-checked _ (reads-opening unit t u (omega (arith, h .rented)) v kinds k (h .kind) (omega (arith, kind-small k (h .kind))))
+      (reads-here _ λ at. reads-tested (reads-require (note 10 at) (lt-ltb 0 n (omega (arith, h .known)))) (reads-pure k))
+
+  reads-heading : Reads (heading unit t n) (headingBytes k unit t a q) (record { kind = k; age = a; blocks = q })
+  unfolding heading headingBytes
+  reads-heading =
+      let young : (k ≡ 4 → ⊥) → a ≡ 0 =
+      λ z. ⊎-elim (λ e. aged-two k a (h .aged) e) (λ e. absurd (z e)) (kind-either k (h .kind)) in
+      reads-bind _ reads-open (reads-bind _ (reads-age k a w young)
+      (reads-checked _ (reads-between 0 blocksMost 6 6 q (omega arith) (h .count) (omega (arith, h .count))) (reads-pure _)))
+
+-- the bytes of a request are read as its kind, its age and its copies
+pub reads-request : (k unit t a n : ℕ) (ms : List ℕ) → unit < 2 ^ 32 → t < 2 ^ 32 → a < 2 ^ 32 → HeadingFits k t a n (length ms)
+    → All (Sendable n) ms → requestSheet unit t n (requestBytes k unit t a ms) 0 ≡ got (said k a ms) (length (requestBytes k unit t a ms))
 unfolding requestSheet requestBytes
-reads-sheet unit t n ms bs hu ht h =
-    let d : Drafted unit t n ms bs = drafted unit t n ms bs h in
-    subst (λ (x : List ℕ). whole (heading unit t n >>= λ q. times q (block (lastDisk n))) x 0 ≡ got ms (length x)) (sym (d .bytes))
-    (reads-whole
-    (reads-bind (λ q. times q (block (lastDisk n)))
-    (reads-heading n (d .known) (d .within) unit t (length ms) hu ht (omega (arith, d .rented)) (d .count))
-    (reads-times (block (lastDisk n)) blockBytes (Sendable n) (reads-block n (d .known) (d .within)) ms (d .blocks))))
+reads-request k unit t a n ms u v w h each =
+    reads-whole (reads-bind (λ x. body x (lastDisk n)) (reads-heading k unit t a n (length ms) u v w h)
+    (reads-body n (h .known) (h .within) _ ms refl each))
+
+-- with age 0 a request may be of either kind, and says the same but for it
+pub same-but-kind : (unit t n : ℕ) (ms : List ℕ) → unit < 2 ^ 32 → t < 2 ^ 32 → 0 < t → 0 < n → n ≤ disksMost → length ms ≤ blocksMost
+    → All (Sendable n) ms
+    → (requestSheet unit t n (requestBytes 2 unit t 0 ms) 0 ≡ got (said 2 0 ms) (length (requestBytes 2 unit t 0 ms)))
+    × (requestSheet unit t n (requestBytes 4 unit t 0 ms) 0 ≡ got (said 4 0 ms) (length (requestBytes 4 unit t 0 ms)))
+same-but-kind unit t n ms u v rented known within count each =
+    let head : (k : ℕ) → listed kinds k ≡ true → HeadingFits k t 0 n (length ms) = λ k l. record {
+      kind = l;
+      rented = λ z. omega arith;
+      aged = aged-zero k 0 (omega arith);
+      known = λ z. omega arith;
+      within = within;
+      count = count;
+    } in (
+      reads-request 2 unit t 0 n ms u v (omega arith) (head 2 (kind-listed 2 (inl refl))) each,
+      reads-request 4 unit t 0 n ms u v (omega arith) (head 4 (kind-listed 4 (inr refl))) each,
+    )
+
+-- the bytes of a draft are read as the values that it was made of
+pub reads-sheet : (k unit t a n : ℕ) (ms bs : List ℕ) → unit < 2 ^ 32 → t < 2 ^ 32 → a < 2 ^ 32 → requestDraft k unit t a n ms ≡ sheet bs
+    → requestSheet unit t n bs 0 ≡ got (said k a ms) (length bs)
+reads-sheet k unit t a n ms bs u v w h =
+    let d : Drafted k unit t a n ms bs = drafted k unit t a n ms bs h in
+    subst (λ (x : List ℕ). requestSheet unit t n x 0 ≡ got (said k a ms) (length x)) (sym (d .bytes))
+    (reads-request k unit t a n ms u v w (d .head) (d .blocks))
 
 -- whatever was written is a sheet, at the buffer's start
 sent-sheet : (d : Draft) (out : List ℕ) (k : ℕ) (after : List ℕ) → Sent d out (Length k) after
@@ -85,12 +135,12 @@ sent-sheet (sheet bs) out k after w = let b = sent-bytes bs out k after w in (bs
 sent-sheet (none e) out k after w =
     absurd (let a : got tt k ≡ refused e = w .answer in let z : _≡_ {A = ℕ} 0 1 = cc in omega arith)
 
--- the writer was told these copies, and the reader finds them in the bytes that it wrote
-pub read-written : (unit t n : ℕ) (ms out : List ℕ) (k : ℕ) (after : List ℕ) → unit < 2 ^ 32 → t < 2 ^ 32
-    → Sent (requestDraft unit t n ms) out (Length k) after → requestSheet unit t n (take k after) 0 ≡ got ms k
-read-written unit t n ms out k after hu ht w =
-    let b = sent-sheet (requestDraft unit t n ms) out k after w in
-    ap (λ x. requestSheet unit t n x 0) (b .3) ∙ reads-sheet unit t n ms (b .0) hu ht (b .1) ∙ ap (got ms) (sym (b .2))
+-- the writer was told this kind, this age and these copies, and the reader finds them in the bytes that it wrote
+pub read-written : (k unit t a n : ℕ) (ms out : List ℕ) (len : ℕ) (after : List ℕ) → unit < 2 ^ 32 → t < 2 ^ 32 → a < 2 ^ 32
+    → Sent (requestDraft k unit t a n ms) out (Length len) after → requestSheet unit t n (take len after) 0 ≡ got (said k a ms) len
+read-written k unit t a n ms out len after u v y w =
+    let b = sent-sheet (requestDraft k unit t a n ms) out len after w in
+    ap (λ x. requestSheet unit t n x 0) (b .3) ∙ reads-sheet k unit t a n ms (b .0) u v y (b .1) ∙ ap (got (said k a ms)) (sym (b .2))
 
 -- ---- writing what was read
 
@@ -110,37 +160,53 @@ module _ (s : List ℕ) (bytes : Bytes s) (n : ℕ) (known : n ≡ 0 → ⊥) (w
         block-sendable n known within s at m e h,
       )
 
-  heading-spelt : (unit t q e : ℕ) → Headed unit t n s 0 q e → Spelt s 0 e (headingBytes unit t q) × (0 < t) × (q ≤ blocksMost)
+  heading-spelt : (unit t : ℕ) (h : Head) (e : ℕ) → Headed unit t n s 0 h e
+      → Spelt s 0 e (headingBytes (h .kind) unit t (h .age) (h .blocks))
   unfolding headingBytes
-  heading-spelt unit t q e h =
-      let f : Spelt s 0 (h .mid) (openingBytes 2 unit t) × (0 < t) = opening-one unit t 2 s 0 bytes (h .first) in
-      let g : Spelt s (h .mid) e (encode q) × (0 ≤ q) × (q ≤ blocksMost) = between-spelt s bytes (h .mid) 0 blocksMost 6 6 (h .last) in
-      (spelt-join (f .0) (g .0), f .1, g .2)
+  heading-spelt unit t h e w =
+      let f = opening-spelt unit t kinds s 0 (w .first) bytes in
+      let a = age-spelt (h .kind) s bytes (w .mid) (h .age) (w .next) (f .0 .within) (w .aged) in
+      let q = between-spelt s bytes (w .next) 0 blocksMost 6 6 (w .last) in
+      spelt-join (f .0) (spelt-join (a .0) (q .0))
 
--- the draft of accepted copies is the sheet that was read. N is at most 64: the reader takes a greater one as 64, the writer refuses it.
-pub write-accepted : (unit t n : ℕ) (s ms : List ℕ) (e : ℕ) → Bytes s → n ≤ disksMost → requestSheet unit t n s 0 ≡ got ms e
-    → requestDraft unit t n ms ≡ sheet s
+-- the draft of what an accepted sheet says is that sheet. N is at most 64: the reader takes a greater one as 64, the writer refuses it.
+pub write-accepted : (unit t n : ℕ) (s : List ℕ) (r : Said) (e : ℕ) → Bytes s → n ≤ disksMost → requestSheet unit t n s 0 ≡ got r e
+    → requestDraft (r .kind) unit t (r .age) n (r .copies) ≡ sheet s
 unfolding requestBytes
-write-accepted unit t n s ms e b l h =
-    let w : Whole unit t n s ms e = sheet-got unit t n s ms e h in
+write-accepted unit t n s r e b l h =
+    let ms : List ℕ = r .copies in
+    let w : Whole unit t n s r e = sheet-got unit t n s r e h in
     let known : n ≡ 0 → ⊥ = λ z. (let p : 0 < n = ltb-true 0 n (w .headed .known) in omega arith) in
-    let i : Spelt s 0 (w .mid) (headingBytes unit t (w .count)) × (0 < t)
-    × (w .count ≤ blocksMost) = heading-spelt s b n known l unit t (w .count) (w .mid) (w .headed) in
+    let rented : 0 < t = opening-tenancy unit t kinds s 0 (w .headed .first) in
+    let young : aged (r .kind) (r .age) ≡ true =
+    ⊎-elim (λ k. aged-zero (r .kind) (r .age) (omega (arith, said-age-none unit t n s r e h k)))
+    (λ k. aged-other (r .kind) (r .age) (λ z. omega arith)) (said-kind unit t n s r e h) in
+    let i = heading-spelt s b n known l unit t _ (w .mid) (w .headed) in
     let j : Spelt s (w .mid) e (spellAll blockBytes ms) × (length ms ≡ w .count)
     × All (Sendable n) ms = times-spelt (block (lastDisk n)) blockBytes (Sendable n) s (block-spelt s b n known l) (w .count) (w .mid)
-    ms e (i .0 .within) (w .rest) in
-    let joined : Spelt s 0 e (headingBytes unit t (length ms) ++ spellAll blockBytes ms) =
-    subst (λ (k : ℕ). Spelt s 0 e (headingBytes unit t k ++ spellAll blockBytes ms)) (sym (j .1)) (spelt-join (i .0) (j .0)) in
-    draft-of unit t n ms (λ z. omega (arith, i .1)) known l (omega (arith, i .2, j .1)) ∙ checked-pass n ms _ (j .2)
-    ∙ ap sheet (sym (spelt-whole s e _ (w .ends) joined))
+    ms e (i .within) (w .rest) in
+    let joined : Spelt s 0 e (headingBytes (r .kind) unit t (r .age) (length ms) ++ spellAll blockBytes ms) =
+    rw (j .1) (spelt-join i (j .0)) in
+    draft-of (r .kind) unit t (r .age) n ms s (record {
+      head = record {
+        kind = kind-listed (r .kind) (said-kind unit t n s r e h);
+        rented = λ z. omega arith;
+        aged = young;
+        known = known;
+        within = l;
+        count = omega (arith, w .small, j .1);
+      };
+      blocks = j .2;
+      bytes = spelt-whole s e _ (w .ends) joined;
+    })
 
 -- with room for it, the writer leaves the same bytes
-pub written-accepted : (unit t n : ℕ) (s ms : List ℕ) (e : ℕ) → Bytes s → n ≤ disksMost → requestSheet unit t n s 0 ≡ got ms e
-    → (out : List ℕ) (r : Written) (after : List ℕ) → length s ≤ length out → Sent (requestDraft unit t n ms) out r after
-    → (r ≡ Length (length s)) × (after ≡ over s out)
+pub written-accepted : (unit t n : ℕ) (s : List ℕ) (r : Said) (e : ℕ) → Bytes s → n ≤ disksMost → requestSheet unit t n s 0 ≡ got r e
+    → (out : List ℕ) (a : Written) (after : List ℕ) → length s ≤ length out
+    → Sent (requestDraft (r .kind) unit t (r .age) n (r .copies)) out a after → (a ≡ Length (length s)) × (after ≡ over s out)
 unfolding toldWritten answerTo leftBy
-written-accepted unit t n s ms e b l h out r after room w =
-    let d : requestDraft unit t n ms ≡ sheet s = write-accepted unit t n s ms e b l h in (
-      written-injective r (Length (length s)) (w .answer ∙ ap (λ x. answerTo x out) d ∙ pick-true _ _ (le-leb _ _ room)),
+written-accepted unit t n s r e b l h out a after room w =
+    let d = write-accepted unit t n s r e b l h in (
+      written-injective a (Length (length s)) (w .answer ∙ ap (λ x. answerTo x out) d ∙ pick-true _ _ (le-leb _ _ room)),
       w .held ∙ ap (λ x. leftBy x out) d ∙ pick-true _ _ (le-leb _ _ room),
     )

@@ -6,11 +6,15 @@
 --     known-in, known-out                               a number of copies has no disk at N or above, or it has one
 --     Counting                                          so many blocks can be sent, and their bytes are counted
 --     counting-start, counting-step, counting-done, counting-none, counting-many, counting-high     as a loop
---     draft-tenancy, draft-unset, draft-large, draft-long, draft-of     the draft in each case, in field order
+--     HeadingFits, headed-all, headed-pass              what is known of the fields before the blocks, where they can be sent
+--     headed-kind, headed-tenancy, headed-age, headed-unset, headed-large, headed-long     why they can't, in field order
 --     Sendable, checked-all, checked-pass               what is known of the copies of a block that can be sent
---     Drafted, drafted                                  a draft that is a sheet: what is known of its values
+--     Drafted, drafted, draft-of                        a draft that is a sheet: what is known of its values
+--     draft-elim                                        what holds of each refusal and of the sheet holds of the draft
+--     judged-got, judged-refused                        what was judged of the fields before the blocks
 --     heading-length, blocks-bound, request-length      the lengths
 --     sized-got, sized-refused                          what the count of the blocks' bytes told
+--     age-room, heading-put                             where the heading has room, its parts have
 --     heading-room, blocks-room, request-sent           where the whole request has room, its parts have
 use mathlib.Core.Path.{_≡_, refl, sym, ap, _∙_, subst}
 use mathlib.Core.Bool.{true, false, not, _&&_, Bool, true≢false, and-true, and-false}
@@ -21,7 +25,7 @@ use lib.Dec.{eqb, ltb, leb}
 use lib.ListN.{length, take, getD, length-append, drop}
 use lib.Seq.{take-length, drop-cons, drop-length}
 use Rattle.number.specs.Encode.{encode, widthOf}
-use Rattle.basics.proofs.Choice.{pick-true, pick-false}
+use Rattle.basics.proofs.Choice.{pick-true, pick-false, pick-elim}
 use Rattle.basics.proofs.Tests.{by-cases}
 use Rattle.number.proofs.Encode.{width-one}
 use Rattle.mask.specs.Has.{has}
@@ -30,10 +34,12 @@ use Rattle.mask.specs.Count.{members}
 use Rattle.basics.specs.Count.{bit, sum, count}
 use Rattle.basics.proofs.Count.{count-most}
 use Rattle.field.specs.Put.{spellAll, PutOne, Laid, openingBytes}
-use Rattle.field.proofs.Puts.{laid-none, laid-length, laid-join, put-one}
+use Rattle.field.proofs.Puts.{laid-none, laid-length, laid-join, put-one, front-room, rest-room}
 use Rattle.field.proofs.Spell.{spell-append, spell-more}
 use Rattle.request.specs.Disks.{disksBelow, disksOf}
-use Rattle.request.specs.Draft.{blockBytes, checked, headingBytes, requestBytes, requestDraft}
+use Rattle.request.specs.Draft.{blockBytes, ageBytes, headingBytes, requestBytes, aged, headed, checked, requestDraft}
+use Rattle.request.specs.Judged.{Judged}
+use Rattle.request.specs.Request.{kinds}
 use Rattle.request.proofs.Disks.{disks-zero, disks-lowest}
 use borrow.Author.Tests.{eq-eqb, ne-eqb, lt-ltb, le-ltb, le-leb, lt-leb, ltb-true, ltb-false, eqb-false, leb-false}
 use Rattle.mask.specs.Member.{Below}
@@ -43,10 +49,13 @@ use Rattle.field.specs.Sheet.{Note, unplaced}
 use Rattle.request.specs.Parts.{Counted, Sized}
 use Rattle.basics.specs.Choice.{pick}
 use Rattle.field.specs.declared.Fault.{Fault}
+use Rattle.field.specs.declared.Verdict.{Verdict}
+use Rattle.field.specs.declared.Verdict.the-variants.{Accepted, Refused as Denied}
 use Rattle.field.specs.declared.Written.{Written}
 use Rattle.field.specs.declared.Written.the-variants.{Length, Refused}
 use Rattle.field.specs.Refusal.{noteOf}
-use Rattle.basics.specs.Lists.{All}
+use Rattle.basics.specs.Lists.{All, listed}
+use Rattle.field.proofs.Known.{Own, own-three, own-six, own-seven, own-fifteen, own-sixteen}
 use Rattle.field.proofs.Sends.{sent-fits}
 use Rattle.field.proofs.Opened.{opening-length}
 use Rattle.basics.specs.Limits.{disksMost, blocksMost, copiesMost}
@@ -281,33 +290,54 @@ module _ (n : ℕ) (ms : List ℕ) (total i : ℕ) (c : Counting n ms total i) w
 
 -- ---- in field order
 
-module _ (unit t n : ℕ) (ms : List ℕ) where
-  pub draft-tenancy : t ≡ 0 → requestDraft unit t n ms ≡ none (unplaced 6)
-  unfolding requestDraft
-  draft-tenancy z = pick-true _ _ (eq-eqb t 0 z)
+-- fields before the blocks that can be sent
+pub record HeadingFits (k t a n q : ℕ) : Type 0 where
+  pub kind : listed kinds k ≡ true
+  pub rented : t ≡ 0 → ⊥
+  pub aged : aged k a ≡ true
+  pub known : n ≡ 0 → ⊥
+  pub within : n ≤ disksMost
+  pub count : q ≤ blocksMost
 
-  module _ (rented : t ≡ 0 → ⊥) where
-    pub draft-unset : n ≡ 0 → requestDraft unit t n ms ≡ none (unplaced 6)
-    unfolding requestDraft
-    draft-unset z = pick-false _ _ (ne-eqb t 0 rented) ∙ pick-true _ _ (eq-eqb n 0 z)
+module _ (k t a n q : ℕ) (d : Draft) where
+  pub headed-kind : listed kinds k ≡ false → headed k t a n q d ≡ none (unplaced 3)
+  unfolding headed
+  headed-kind f = pick-false _ _ f
 
-    module _ (known : n ≡ 0 → ⊥) where
-      pub draft-large : disksMost < n → requestDraft unit t n ms ≡ none (unplaced 6)
-      unfolding requestDraft
-      draft-large l = pick-false _ _ (ne-eqb t 0 rented) ∙ pick-false _ _ (ne-eqb n 0 known) ∙ pick-true _ _ (lt-ltb disksMost n l)
+  module _ (kind : listed kinds k ≡ true) where
+    pub headed-tenancy : t ≡ 0 → headed k t a n q d ≡ none (unplaced 6)
+    unfolding headed
+    headed-tenancy z = pick-true _ _ kind ∙ pick-true _ _ (eq-eqb t 0 z)
 
-      module _ (few : n ≤ disksMost) where
-        pub draft-long : blocksMost < length ms → requestDraft unit t n ms ≡ none (unplaced 6)
-        unfolding requestDraft
-        draft-long l =
-            pick-false _ _ (ne-eqb t 0 rented) ∙ pick-false _ _ (ne-eqb n 0 known) ∙ pick-false _ _ (le-ltb disksMost n few)
-            ∙ pick-true _ _ (lt-ltb blocksMost (length ms) l)
+    module _ (rented : t ≡ 0 → ⊥) where
+      pub headed-age : aged k a ≡ false → headed k t a n q d ≡ none (unplaced 15)
+      unfolding headed
+      headed-age f = pick-true _ _ kind ∙ pick-false _ _ (ne-eqb t 0 rented) ∙ pick-false _ _ f
 
-        pub draft-of : length ms ≤ blocksMost → requestDraft unit t n ms ≡ checked n ms (sheet (requestBytes unit t ms))
-        unfolding requestDraft
-        draft-of l =
-            pick-false _ _ (ne-eqb t 0 rented) ∙ pick-false _ _ (ne-eqb n 0 known) ∙ pick-false _ _ (le-ltb disksMost n few)
-            ∙ pick-false _ _ (le-ltb blocksMost (length ms) l)
+      module _ (young : aged k a ≡ true) where
+        -- N and Q are judged last
+        counts : headed k t a n q d
+            ≡ pick (eqb n 0) (none (unplaced 6))
+            (pick (ltb disksMost n) (none (unplaced 6)) (pick (ltb blocksMost q) (none (unplaced 6)) d))
+        unfolding headed
+        counts = pick-true _ _ kind ∙ pick-false _ _ (ne-eqb t 0 rented) ∙ pick-true _ _ young
+
+        pub headed-unset : n ≡ 0 → headed k t a n q d ≡ none (unplaced 6)
+        headed-unset z = counts ∙ pick-true _ _ (eq-eqb n 0 z)
+
+        module _ (known : n ≡ 0 → ⊥) where
+          pub headed-large : disksMost < n → headed k t a n q d ≡ none (unplaced 6)
+          headed-large l = counts ∙ pick-false _ _ (ne-eqb n 0 known) ∙ pick-true _ _ (lt-ltb disksMost n l)
+
+          module _ (few : n ≤ disksMost) where
+            pub headed-long : blocksMost < q → headed k t a n q d ≡ none (unplaced 6)
+            headed-long l =
+                counts ∙ pick-false _ _ (ne-eqb n 0 known) ∙ pick-false _ _ (le-ltb disksMost n few) ∙ pick-true _ _ (lt-ltb blocksMost q l)
+
+  pub headed-pass : HeadingFits k t a n q → headed k t a n q d ≡ d
+  headed-pass h =
+      counts (h .kind) (h .rented) (h .aged) ∙ pick-false _ _ (ne-eqb n 0 (h .known)) ∙ pick-false _ _ (le-ltb disksMost n (h .within))
+      ∙ pick-false _ _ (le-ltb blocksMost q (h .count))
 
 -- another name of a draft
 pub sent-as : {d e : Draft} {out : List ℕ} {r : Written} {after : List ℕ} → d ≡ e → Sent e out r after → Sent d out r after
@@ -354,40 +384,106 @@ checked-all n (m ∷ ms) d bs h =
       j .1,
     )
 
--- a draft that is a sheet: what is known of its values
-pub record Drafted (unit t n : ℕ) (ms bs : List ℕ) : Type 0 where
-  pub rented : t ≡ 0 → ⊥
-  pub known : n ≡ 0 → ⊥
-  pub within : n ≤ disksMost
-  pub count : length ms ≤ blocksMost
-  pub blocks : All (Sendable n) ms
-  pub bytes : bs ≡ requestBytes unit t ms
+-- the same of the fields before the blocks: there the test that passes goes on
+goes : (b : Bool) (e : Note) (d : Draft) (bs : List ℕ) → pick b d (none e) ≡ sheet bs → (b ≡ true) × (d ≡ sheet bs)
+unfolding pick
+goes true e d bs h = (refl, h)
+goes false e d bs h = absurd (let z : _≡_ {A = ℕ} 0 1 = cc in omega arith)
 
-pub drafted : (unit t n : ℕ) (ms bs : List ℕ) → requestDraft unit t n ms ≡ sheet bs → Drafted unit t n ms bs
-unfolding requestDraft
-drafted unit t n ms bs h =
-    let f = passes (eqb t 0) _ _ bs h in
-    let g = passes (eqb n 0) _ _ bs (f .1) in
-    let i = passes (ltb disksMost n) _ _ bs (g .1) in
-    let j = passes (ltb blocksMost (length ms)) _ _ bs (i .1) in
-    let k : All (Sendable n) ms
-    × (sheet (requestBytes unit t ms) ≡ sheet bs) = checked-all n ms (sheet (requestBytes unit t ms)) bs (j .1) in
-    let e : sheet (requestBytes unit t ms) ≡ sheet bs = k .1 in
-    record {
-      rented = eqb-false t 0 (f .0);
-      known = eqb-false n 0 (g .0);
-      within = ltb-false disksMost n (i .0);
-      count = ltb-false blocksMost (length ms) (j .0);
-      blocks = k .0;
-      bytes = sym (cc);
-    }
+pub headed-all : (k t a n q : ℕ) (d : Draft) (bs : List ℕ) → headed k t a n q d ≡ sheet bs → HeadingFits k t a n q × (d ≡ sheet bs)
+unfolding headed
+headed-all k t a n q d bs h =
+    let kind = goes (listed kinds k) _ _ bs h in
+    let rented = passes (eqb t 0) _ _ bs (kind .1) in
+    let young = goes (aged k a) _ _ bs (rented .1) in
+    let known = passes (eqb n 0) _ _ bs (young .1) in
+    let within = passes (ltb disksMost n) _ _ bs (known .1) in
+    let count = passes (ltb blocksMost q) _ _ bs (within .1) in (
+      record {
+        kind = kind .0;
+        rented = eqb-false t 0 (rented .0);
+        aged = young .0;
+        known = eqb-false n 0 (known .0);
+        within = ltb-false disksMost n (within .0);
+        count = ltb-false blocksMost q (count .0);
+      },
+      count .1,
+    )
+
+-- a draft that is a sheet: what is known of its values
+pub record Drafted (k unit t a n : ℕ) (ms bs : List ℕ) : Type 0 where
+  pub head : HeadingFits k t a n (length ms)
+  pub blocks : All (Sendable n) ms
+  pub bytes : bs ≡ requestBytes k unit t a ms
+
+module _ (k unit t a n : ℕ) (ms bs : List ℕ) where
+  pub drafted : requestDraft k unit t a n ms ≡ sheet bs → Drafted k unit t a n ms bs
+  unfolding requestDraft
+  drafted h =
+      let f = headed-all k t a n (length ms) _ bs h in
+      let g : All (Sendable n) ms × (sheet (requestBytes k unit t a ms) ≡ sheet bs) = checked-all n ms _ bs (f .1) in
+      let e : sheet (requestBytes k unit t a ms) ≡ sheet bs = g .1 in
+      record { head = f .0; blocks = g .0; bytes = sym (cc) }
+
+  -- and such values make that sheet
+  pub draft-of : Drafted k unit t a n ms bs → requestDraft k unit t a n ms ≡ sheet bs
+  unfolding requestDraft
+  draft-of d = headed-pass k t a n (length ms) _ (d .head) ∙ checked-pass n ms _ (d .blocks) ∙ ap sheet (sym (d .bytes))
+
+-- ---- why there is no sheet
+
+-- what holds of each refusal of the table but 11, at no place, and of the sheet, holds of the draft
+module _ (P : Draft → Type 0) (refused : (m : ℕ) → Own m → P (none (unplaced m))) where
+  checked-elim : (n : ℕ) (ms : List ℕ) (d : Draft) → P d → P (checked n ms d)
+  unfolding checked
+  checked-elim n [] d h = h
+  checked-elim n (m ∷ ms) d h =
+      pick-elim P _ _ _ (λ _. refused 7 own-seven)
+      (λ _. pick-elim P _ _ _ (λ _. refused 6 own-six)
+      (λ _. pick-elim P _ _ _ (λ _. refused 16 own-sixteen) (λ _. checked-elim n ms d h)))
+
+  headed-elim : (k t a n q : ℕ) (d : Draft) → P d → P (headed k t a n q d)
+  unfolding headed
+  headed-elim k t a n q d h =
+      let six : P (none (unplaced 6)) = refused 6 own-six in
+      pick-elim P _ _ _
+      (λ _. pick-elim P _ _ _ (λ _. six)
+      (λ _. pick-elim P _ _ _
+      (λ _. pick-elim P _ _ _ (λ _. six) (λ _. pick-elim P _ _ _ (λ _. six) (λ _. pick-elim P _ _ _ (λ _. six) (λ _. h))))
+      (λ _. refused 15 own-fifteen)))
+      (λ _. refused 3 own-three)
+
+  pub draft-elim : (k unit t a n : ℕ) (ms : List ℕ) → P (sheet (requestBytes k unit t a ms)) → P (requestDraft k unit t a n ms)
+  unfolding requestDraft
+  draft-elim k unit t a n ms h = headed-elim k t a n (length ms) _ (checked-elim n ms _ h)
+
+-- ---- what was judged
+
+module _ (k t a n q : ℕ) {v : Verdict} (j : Judged k t a n q v) where
+  -- whatever follows the fields: so also where it is a sheet
+  pub judged-got : v ≡ Accepted → HeadingFits k t a n q
+  unfolding Judged
+  judged-got e = let all : (d : Draft) → headed k t a n q d ≡ d = subst (Judged k t a n q) e j in
+      headed-all k t a n q (sheet []) [] (all (sheet [])) .0
+
+  pub judged-refused : {f : Fault} → v ≡ Denied f → (d : Draft) → headed k t a n q d ≡ none (noteOf f)
+  unfolding Judged
+  judged-refused e = subst (Judged k t a n q) e j
 
 -- ---- the lengths
 
-pub heading-length : (unit t q : ℕ) → length (headingBytes unit t q) ≡ 1 + widthOf unit + widthOf t + widthOf q
+-- every kind is one byte
+pub heading-length : (k unit t a q : ℕ) → k < 128
+    → length (headingBytes k unit t a q) ≡ 1 + widthOf unit + widthOf t + length (ageBytes k a) + widthOf q
 unfolding headingBytes widthOf
-heading-length unit t q =
-    omega (arith, length-append (openingBytes 2 unit t) (encode q), opening-length 2 unit t, width-one 2 (omega arith))
+heading-length k unit t a q h =
+    omega (
+      arith,
+      length-append (openingBytes k unit t) (ageBytes k a ++ encode q),
+      length-append (ageBytes k a) (encode q),
+      opening-length k unit t,
+      width-one k h,
+    )
 
 pub blocks-bound : (n : ℕ) (ms : List ℕ) → All (Sendable n) ms → length (spellAll blockBytes ms) ≤ (1 + copiesMost) * length ms
 unfolding spellAll All
@@ -410,32 +506,39 @@ sized-refused n ms s q = subst (Sized n ms) q s
 -- ---- room for all of it
 
 -- the length as the writer adds it up
-pub request-length : (unit t : ℕ) (ms : List ℕ) {a b c k : ℕ} → a ≡ widthOf unit → b ≡ widthOf t → c ≡ widthOf (length ms) → Counted ms k
-    → length (requestBytes unit t ms) ≡ 1 + a + b + c + k
+pub request-length : (k unit t a : ℕ) (ms : List ℕ) {w n : ℕ} → w ≡ length (headingBytes k unit t a (length ms)) → Counted ms n
+    → length (requestBytes k unit t a ms) ≡ w + n
 unfolding requestBytes
-request-length unit t ms ea eb ec n =
-    omega (
-      arith,
-      ea,
-      eb,
-      ec,
-      n .bytes,
-      length-append (headingBytes unit t (length ms)) (spellAll blockBytes ms),
-      heading-length unit t (length ms),
-    )
+request-length k unit t a ms e c =
+    omega (arith, e, c .bytes, length-append (headingBytes k unit t a (length ms)) (spellAll blockBytes ms))
+
+-- where the heading has room, its parts have
+module _ (k unit t a q : ℕ) {out mid : List ℕ} {p : ℕ} (room : length (headingBytes k unit t a q) ≤ length out)
+    (w : Laid out 0 (openingBytes k unit t) mid p) where
+  rest : p + length (ageBytes k a ++ encode q) ≤ length mid
+  unfolding headingBytes
+  rest = rest-room (ageBytes k a ++ encode q) w (omega arith)
+
+  pub age-room : p + length (ageBytes k a) ≤ length mid
+  age-room = omega (arith, rest, length-append (ageBytes k a) (encode q))
+
+  pub heading-put : {next e : ℕ} {held after : List ℕ} → Laid mid p (ageBytes k a) held next → PutOne q held next e after
+      → Laid out 0 (headingBytes k unit t a q) after e
+  unfolding headingBytes widthOf
+  heading-put f g = laid-join w (laid-join f (put-one g (rest-room (encode q) f rest)))
 
 -- where the whole request has room, its parts have
-module _ (unit t : ℕ) (ms out : List ℕ) (room : length (requestBytes unit t ms) ≤ length out) where
-  pub heading-room : length (headingBytes unit t (length ms)) ≤ length out
+module _ (k unit t a : ℕ) (ms out : List ℕ) (room : length (requestBytes k unit t a ms) ≤ length out) where
+  pub heading-room : length (headingBytes k unit t a (length ms)) ≤ length out
   unfolding requestBytes
-  heading-room = omega (arith, length-append (headingBytes unit t (length ms)) (spellAll blockBytes ms))
+  heading-room = front-room (headingBytes k unit t a (length ms)) (spellAll blockBytes ms) out room
 
-  module _ {mid : List ℕ} {p : ℕ} (w : Laid out 0 (headingBytes unit t (length ms)) mid p) where
+  module _ {mid : List ℕ} {p : ℕ} (w : Laid out 0 (headingBytes k unit t a (length ms)) mid p) where
     pub blocks-room : p + length (spellAll blockBytes ms) ≤ length mid
     unfolding requestBytes
-    blocks-room = omega (arith, length-append (headingBytes unit t (length ms)) (spellAll blockBytes ms), w .place, laid-length w)
+    blocks-room = rest-room (spellAll blockBytes ms) w (omega arith)
 
     pub request-sent : {after : List ℕ} {next : ℕ} → Laid mid p (spellAll blockBytes ms) after next
-        → Sent (sheet (requestBytes unit t ms)) out (Length next) after
+        → Sent (sheet (requestBytes k unit t a ms)) out (Length next) after
     unfolding requestBytes
     request-sent f = sent-fits (laid-join w f)

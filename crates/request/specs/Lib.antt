@@ -2,4 +2,5 @@ pub mod Disks
 pub mod Request
 pub mod Told
 pub mod Draft
+pub mod Judged
 pub mod Parts

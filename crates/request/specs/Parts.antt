@@ -1,4 +1,5 @@
 -- What the private functions promise.
+--     toldHead        the cases of the answer to the heading
 --     toldCopies         the cases of the answer to one block
 --     masked             the copies of a list of disks, with some others
 --     Beyond             what stands at a place is refused as a disk up to the last one
@@ -15,10 +16,18 @@ use Rattle.field.specs.Refusal.{noteOf}
 use Rattle.field.specs.Send.{Draft, none}
 use Rattle.field.specs.Sheet.{Note, Out, got, refused}
 use Rattle.field.specs.Field.{rising}
+use Rattle.request.specs.declared.Head.{Head}
+use Rattle.request.specs.declared.HeadRead.{HeadRead}
+use Rattle.request.specs.declared.HeadRead.the-variants.{Got as GotHead, Refused as NoHead}
 use Rattle.request.specs.declared.Copies.{Copies}
 use Rattle.request.specs.declared.Copies.the-variants.{Got, Refused as NoBlock}
 use Rattle.request.specs.Disks.{maskOf}
 use Rattle.request.specs.Draft.{blockBytes, checked}
+
+-- kind, age and Q and the place after them, or a refusal
+unfoldable pub toldHead : HeadRead → Out Head
+toldHead (GotHead h at) = got h at
+toldHead (NoHead e) = refused (noteOf e)
 
 -- a block's copies and the place after it, or a refusal
 unfoldable pub toldCopies : Copies → Out ℕ

@@ -6,6 +6,7 @@ use basics::Masks;
 use field::Fault;
 use field::Field;
 use field::Refusal;
+use field::Verdict;
 use field::Written;
 ghost use mathlib.Core.Path.{_≡_};
 ghost use Prim.Native.Nat.{ℕ, _+_, _≤_, _<_};
@@ -16,12 +17,14 @@ ghost use Rattle.field.specs.Field.{ascending, whole};
 ghost use Rattle.field.specs.Put.{spellAll, Laid};
 ghost use Rattle.field.specs.Refusal.{noteOf};
 ghost use Rattle.field.specs.Send.{Sent, sheet};
-ghost use Rattle.field.specs.Sheet.{refused, times};
+ghost use Rattle.field.specs.Sheet.{refused};
 ghost use Rattle.field.specs.Told.{told};
 ghost use Rattle.request.specs.Disks.{disksOf};
-ghost use Rattle.request.specs.Draft.{blockBytes, headingBytes, requestBytes, requestDraft};
-ghost use Rattle.request.specs.Parts.{toldCopies, masked, Beyond, Counted, Sized};
-ghost use Rattle.request.specs.Request.{lastDisk, block, heading as headingOf, requestSheet};
+ghost use Rattle.request.specs.Draft.{blockBytes, ageBytes, headingBytes, requestBytes, requestDraft};
+ghost use Rattle.request.specs.Judged.{Judged};
+ghost use Rattle.request.specs.Parts.{toldHead, toldCopies, masked, Beyond, Counted, Sized};
+ghost use Rattle.request.specs.Request.{lastDisk, block, age as ageOf, opening as openingOf, heading as headingOf};
+ghost use Rattle.request.specs.Request.{body as bodyOf, requestSheet};
 ghost use Rattle.request.specs.Told.{Told};
 
 // What a reader of requests answers: the block count Q, or the refusal.
@@ -30,10 +33,26 @@ pub enum Answer {
     Refused(Fault),
 }
 
-// The answer, and a number of copies for each block, bit d standing for disk d: 0 from Q on, and all 0 on refusal.
+// The answer, the kind, the age of the settings in microseconds, and a number of copies for each block, bit d standing for disk d: 0 from Q
+// on, and all 0 on refusal.
 pub struct Request {
     pub answer: Answer,
+    pub kind: u32,
+    pub age: u32,
     pub copies: Masks,
+}
+
+// The kind of a request, the age of the settings, and the block count Q.
+pub struct Head {
+    pub kind: u32,
+    pub age: u32,
+    pub blocks: u32,
+}
+
+// What reading the heading gives: it and the place after it, or the refusal.
+enum HeadRead {
+    Got(Head, usize),
+    Refused(Fault),
 }
 
 // What reading one block gives: its copies and the place after it, or the refusal.
@@ -129,16 +148,19 @@ fn refuse(e: Fault) -> Request
     let copies = [0u64; BLOCKS];
     Request {
         answer: Answer::Refused(e),
+        kind: 0,
+        age: 0,
         copies,
     }
 }
 
-// The blocks from a place on, and the end of the sheet.
-fn blocks(s: &[u8], at: usize, q: usize, high: u32) -> Request
-    requires { ⌜ (q ≤ blocksMost) × (high < disksMost) ⌝ }
-    ensures { λ r. ⌜ Told (length (now (s .entry))) (whole (times q (block high)) (now (s .entry)) at) r ⌝ }
+// The blocks of a heading from a place on, and the end of the sheet.
+fn blocks(s: &[u8], at: usize, heading: Head, high: u32) -> Request
+    requires { ⌜ (heading .blocks ≤ blocksMost) × (high < disksMost) ⌝ }
+    ensures { λ r. ⌜ Told (length (now (s .entry))) (whole (bodyOf heading high) (now (s .entry)) at) r ⌝ }
 {
     let mut copies = [0u64; BLOCKS];
+    let q = heading.blocks as usize;
     let mut p = at;
     let mut i: usize = 0;
     while i < q {
@@ -156,18 +178,30 @@ fn blocks(s: &[u8], at: usize, q: usize, high: u32) -> Request
     match field::end(s, p) {
         Field::Got(_, _) => Request {
             answer: Answer::Accepted(q),
+            kind: heading.kind,
+            age: heading.age,
             copies,
         },
         Field::Refused(e) => refuse(e),
     }
 }
 
-// The fields before the blocks: Q and the place after it.
-fn heading(s: &[u8], unit: u32, tenancy: u32, disks: u32) -> Field
-    ensures { λ r. ⌜ told r ≡ headingOf unit tenancy disks (now (s .entry)) 0 ⌝ }
+// The age at a place, a field of kind 4 alone.
+fn age(s: &[u8], at: usize, kind: u32) -> Field
+    ensures { λ r. ⌜ told r ≡ ageOf kind (now (s .entry)) at ⌝ }
 {
-    let found = field::opening(s, &[2], unit, tenancy);
-    let Field::Got(_, at) = found else {
+    if kind == 4 {
+        return field::number(s, at);
+    }
+    Field::Got(0, at)
+}
+
+// The kind, and the place of the age: 10 for a unit that has no settings yet.
+fn opening(s: &[u8], unit: u32, tenancy: u32, disks: u32) -> Field
+    ensures { λ r. ⌜ told r ≡ openingOf unit tenancy disks (now (s .entry)) 0 ⌝ }
+{
+    let found = field::opening(s, &[2, 4], unit, tenancy);
+    let Field::Got(kind, at) = found else {
         return found;
     };
     if disks == 0 {
@@ -176,7 +210,36 @@ fn heading(s: &[u8], unit: u32, tenancy: u32, disks: u32) -> Field
             place: at,
         });
     }
-    field::inside(s, at, 0, BLOCKS as u32, Refusal::OutOfRange)
+    Field::Got(kind, at)
+}
+
+// The fields before the blocks.
+fn heading(s: &[u8], unit: u32, tenancy: u32, disks: u32) -> HeadRead
+    ensures { λ r. ⌜ toldHead r ≡ headingOf unit tenancy disks (now (s .entry)) 0 ⌝ }
+{
+    match opening(s, unit, tenancy, disks) {
+        Field::Got(kind, at) => match age(s, at, kind) {
+            Field::Got(a, next) => match field::inside(
+                s,
+                next,
+                0,
+                BLOCKS as u32,
+                Refusal::OutOfRange,
+            ) {
+                Field::Got(q, e) => HeadRead::Got(
+                    Head {
+                        kind,
+                        age: a,
+                        blocks: q,
+                    },
+                    e,
+                ),
+                Field::Refused(e) => HeadRead::Refused(e),
+            },
+            Field::Refused(e) => HeadRead::Refused(e),
+        },
+        Field::Refused(e) => HeadRead::Refused(e),
+    }
 }
 
 // Reads a request for a unit, its tenancy (0: not rented) and its N (0: no settings yet).
@@ -184,8 +247,8 @@ pub fn read(s: &[u8], unit: u32, tenancy: u32, disks: u32) -> Request
     ensures { λ r. ⌜ Told (length (now (s .entry))) (requestSheet unit tenancy disks (now (s .entry)) 0) r ⌝ }
 {
     match heading(s, unit, tenancy, disks) {
-        Field::Got(q, at) => blocks(s, at, q as usize, last(disks)),
-        Field::Refused(e) => refuse(e),
+        HeadRead::Got(h, at) => blocks(s, at, h, last(disks)),
+        HeadRead::Refused(e) => refuse(e),
     }
 }
 
@@ -262,63 +325,135 @@ fn put_blocks(copies: &[u64], out: &mut [u8], at: usize) -> usize
     p
 }
 
-// Puts the fields before the blocks.
-fn put_heading(unit: u32, tenancy: u32, q: u32, out: &mut [u8]) -> usize
-    requires { ⌜ length (headingBytes unit tenancy q) ≤ length (now out) ⌝ }
-    ensures { λ r. ⌜ Laid (now (out .entry)) 0 (headingBytes unit tenancy q) (now (out .exit)) r ⌝ }
+// Puts the age, a field of kind 4 alone.
+fn put_age(kind: u32, age: u32, out: &mut [u8], at: usize) -> usize
+    requires { ⌜ at + length (ageBytes kind age) ≤ length (now out) ⌝ }
+    ensures { λ r. ⌜ Laid (now (out .entry)) at (ageBytes kind age) (now (out .exit)) r ⌝ }
 {
-    let at = field::put_opening(2, unit, tenancy, out);
-    field::put(q, out, at)
+    if kind == 4 {
+        return field::put(age, out, at);
+    }
+    at
+}
+
+// Puts the fields before the blocks.
+fn put_heading(kind: u32, unit: u32, tenancy: u32, age: u32, q: u32, out: &mut [u8]) -> usize
+    requires { ⌜ length (headingBytes kind unit tenancy age q) ≤ length (now out) ⌝ }
+    ensures { λ r. ⌜ Laid (now (out .entry)) 0 (headingBytes kind unit tenancy age q) (now (out .exit)) r ⌝ }
+{
+    let at = field::put_opening(kind, unit, tenancy, out);
+    let next = put_age(kind, age, out, at);
+    field::put(q, out, next)
+}
+
+// The bytes of the age.
+fn age_width(kind: u32, age: u32) -> usize
+    ensures { λ r. ⌜ r ≡ length (ageBytes kind age) ⌝ }
+{
+    if kind == 4 {
+        return number::width(age);
+    }
+    0
+}
+
+// The bytes of the fields before the blocks. Every kind of request is one byte.
+fn heading_width(kind: u32, unit: u32, tenancy: u32, age: u32, q: u32) -> usize
+    requires { ⌜ kind < 128 ⌝ }
+    ensures { λ r. ⌜ r ≡ length (headingBytes kind unit tenancy age q) ⌝ }
+{
+    1 + number::width(unit) + number::width(tenancy) + age_width(kind, age) + number::width(q)
 }
 
 // Writes a request whose blocks take n bytes and can all be sent; the length is found first.
-fn send(unit: u32, tenancy: u32, copies: &[u64], n: usize, out: &mut [u8]) -> Written
-    requires { ⌜ Counted (now copies) n ⌝ }
-    ensures { λ r. ⌜ Sent (sheet (requestBytes unit tenancy (now (copies .entry)))) (now (out .entry)) r (now (out .exit)) ⌝ }
+fn send(
+    kind: u32,
+    unit: u32,
+    tenancy: u32,
+    age: u32,
+    copies: &[u64],
+    n: usize,
+    out: &mut [u8],
+) -> Written
+    requires { ⌜ (kind < 128) × Counted (now copies) n ⌝ }
+    ensures { λ r. ⌜ Sent (sheet (requestBytes kind unit tenancy age (now (copies .entry)))) (now (out .entry)) r (now (out .exit)) ⌝ }
 {
     let q = copies.len() as u32;
-    let length = 1 + number::width(unit) + number::width(tenancy) + number::width(q) + n;
+    let length = heading_width(kind, unit, tenancy, age, q) + n;
     if out.len() < length {
         return Written::Refused(Fault {
             refusal: Refusal::NoRoom,
             place: length,
         });
     }
-    let p = put_heading(unit, tenancy, q, out);
+    let p = put_heading(kind, unit, tenancy, age, q, out);
     let e = put_blocks(copies, out, p);
     Written::Length(e)
 }
 
-// Writes a request for a unit of so many disks, from a number of copies for each block.
-pub fn write(unit: u32, tenancy: u32, disks: u32, copies: &[u64], out: &mut [u8]) -> Written
-    ensures { λ r. ⌜ Sent (requestDraft unit tenancy disks (now (copies .entry))) (now (out .entry)) r (now (out .exit)) ⌝ }
+// Whether the fields before the blocks can be sent.
+pub fn judge(kind: u32, tenancy: u32, age: u32, disks: u32, q: usize) -> Verdict
+    ensures { λ r. ⌜ Judged kind tenancy age disks q r ⌝ }
 {
+    if kind != 2 {
+        if kind != 4 {
+            return Verdict::Refused(Fault {
+                refusal: Refusal::WrongKind,
+                place: 0,
+            });
+        }
+    }
     if tenancy == 0 {
-        return Written::Refused(Fault {
+        return Verdict::Refused(Fault {
             refusal: Refusal::OutOfRange,
             place: 0,
         });
     }
+    if kind == 2 {
+        if 0 < age {
+            return Verdict::Refused(Fault {
+                refusal: Refusal::BadAmount,
+                place: 0,
+            });
+        }
+    }
     if disks == 0 {
-        return Written::Refused(Fault {
+        return Verdict::Refused(Fault {
             refusal: Refusal::OutOfRange,
             place: 0,
         });
     }
     if (DISKS as u32) < disks {
-        return Written::Refused(Fault {
+        return Verdict::Refused(Fault {
             refusal: Refusal::OutOfRange,
             place: 0,
         });
     }
-    if BLOCKS < copies.len() {
-        return Written::Refused(Fault {
+    if BLOCKS < q {
+        return Verdict::Refused(Fault {
             refusal: Refusal::OutOfRange,
             place: 0,
         });
     }
-    match size(copies, disks as usize) {
-        Written::Length(n) => send(unit, tenancy, copies, n, out),
-        Written::Refused(e) => Written::Refused(e),
+    Verdict::Accepted
+}
+
+// Writes a request of a kind for a unit of so many disks, from a number of copies for each block.
+pub fn write(
+    kind: u32,
+    unit: u32,
+    tenancy: u32,
+    age: u32,
+    disks: u32,
+    copies: &[u64],
+    out: &mut [u8],
+) -> Written
+    ensures { λ r. ⌜ Sent (requestDraft kind unit tenancy age disks (now (copies .entry))) (now (out .entry)) r (now (out .exit)) ⌝ }
+{
+    match judge(kind, tenancy, age, disks, copies.len()) {
+        Verdict::Accepted => match size(copies, disks as usize) {
+            Written::Length(n) => send(kind, unit, tenancy, age, copies, n, out),
+            Written::Refused(e) => Written::Refused(e),
+        },
+        Verdict::Refused(e) => Written::Refused(e),
     }
 }

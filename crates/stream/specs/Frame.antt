@@ -16,7 +16,7 @@ use Rattle.stream.specs.declared.Span.the-variants.{Part, Refused}
 unfoldable pub bytes : ℕ → Parser (List ℕ)
 bytes n s at = pick (leb (at + n) (length s)) (got (take n (drop at s)) (at + n)) (refused (note 1 (length s)))
 
--- the length of a sheet, 6 above 9,229, and that sheet
+-- the length of a sheet, 6 above 9,234, and that sheet
 unfoldable pub sheet : Parser (List ℕ)
 sheet = do
   n ← inside 0 requestMost 6

@@ -17,7 +17,7 @@ use Rattle.field.proofs.Unique.{number-injective}
 use Rattle.settings.specs.declared.Table.{Table}
 use Rattle.settings.specs.Sheet.{settingsSheet}
 use Rattle.settings.proofs.Placed.{sheet-placed as settings-placed}
-use Rattle.request.specs.Request.{requestSheet}
+use Rattle.request.specs.Request.{Said}
 use Rattle.request.proofs.Placed.{sheet-placed as request-placed}
 use Rattle.planner.specs.Asked.{caseIn, asked, Plans}
 use Rattle.planner.proofs.Answers.{Unsent, denied, longer, answered-none}
@@ -42,9 +42,9 @@ set-placed u s d f h q =
     settled-placed u s (settingsSheet (u .number) (tenancyOf u) s 0) (noteOf f) (λ e. settings-placed (u .number) (tenancyOf u) s e)
     (sym (ap (λ (o : Outcome). o .verdict) h) ∙ ap toldVerdict q)
 
-case-refused : (t : Table) (o : Out (List ℕ)) {n : Note} → caseIn t o ≡ refused n → o ≡ refused n
+case-refused : (t : Table) (o : Out Said) {n : Note} → caseIn t o ≡ refused n → o ≡ refused n
 unfolding caseIn
-case-refused t (got copies e) h = absurd (let z : _≡_ {A = ℕ} 0 1 = cc in omega arith)
+case-refused t (got r e) h = absurd (let z : _≡_ {A = ℕ} 0 1 = cc in omega arith)
 case-refused t (refused m) {n} h = let e : m ≡ n = cc in ap refused e
 
 plans-refused : (o : Out Case) {n : Note} → Plans o (refused n) → o ≡ refused n

@@ -40,7 +40,12 @@ call-why-block : asked (bytes "05 80 00 80 00") 0 ≡ refused (note 2 1)
 unfolding stream-opened
 call-why-block = refl
 
--- a length of 9,230
-pub call-length : asked (bytes "02 8E 48") 0 ≡ refused (note 6 1)
+-- a length of 9,235
+pub call-length : asked (bytes "02 93 48") 0 ≡ refused (note 6 1)
 unfolding stream-opened
 call-length = refl
+
+-- a length of 9,234, of which no byte has come yet
+call-longest : asked (bytes "02 92 48") 0 ≡ refused (note 1 3)
+unfolding stream-opened
+call-longest = refl

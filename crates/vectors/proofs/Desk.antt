@@ -25,14 +25,23 @@ settings-broken = refl
 -- ---- rp_write_request
 
 -- disk 63 is the highest bit of the eighth byte
-pub request-disk-63 : requestDraftOfBytes 7 300 64 (bytes "01 00 00 00 00 00 00 80") ≡ sheet (bytes "02 07 AC 02 01 02 00 3F")
+pub request-disk-63 : requestDraftOfBytes 2 7 300 0 64 (bytes "01 00 00 00 00 00 00 80") ≡ sheet (bytes "02 07 AC 02 01 02 00 3F")
 unfolding desk-opened
 request-disk-63 = refl
 
 -- a list broken inside a number
-pub request-broken : requestDraftOfBytes 7 300 3 (bytes "03 00 00 00") ≡ none (unplaced 6)
+pub request-broken : requestDraftOfBytes 2 7 300 0 3 (bytes "03 00 00 00") ≡ none (unplaced 6)
 unfolding desk-opened
 request-broken = refl
+
+-- broken inside a number: after the kind, before the age
+request-broken-kind : requestDraftOfBytes 3 7 300 1 3 (bytes "03 00 00 00") ≡ none (unplaced 3)
+unfolding desk-opened
+request-broken-kind = refl
+
+request-broken-aged : requestDraftOfBytes 2 7 300 1 3 (bytes "03 00 00 00") ≡ none (unplaced 6)
+unfolding desk-opened
+request-broken-aged = refl
 
 -- ---- rp_read_plan
 

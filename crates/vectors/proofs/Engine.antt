@@ -1,17 +1,17 @@
 -- The engine on the figure P5, where all three blocks are short as well: the short set is block 0 alone.
-use Prim.Native.Nat.{ℕ, zero, suc, _+_, _≤_}
-use mathlib.Core.Bool.{Bool}
+use Prim.Native.Nat.{ℕ, zero, suc, _≤_}
 use mathlib.Core.List.{List, [], _∷_}
-use mathlib.Core.Path.{_≡_, refl, ap₂, fun-ext, subst}
+use mathlib.Core.Path.{_≡_, refl, subst}
 use native.Mathlib.Omega.{arith}
 use lib.ListN.{getD}
-use Rattle.model.specs.Case.{Case, base}
+use Rattle.model.specs.Case.{Case, left}
+use Rattle.basics.specs.Choice.{pick}
 use Rattle.basics.specs.Lists.{Rises, listed}
 use Rattle.model.specs.Figures.{asked}
 use Rattle.model.specs.Plan.{Optimal}
 use Rattle.engine.specs.Planned.{Planned}
 use Rattle.engine.specs.Spelled.{spelled}
-use Rattle.vectors.proofs.Figures.{join, same-copies, copies-p5, P5}
+use Rattle.vectors.proofs.Figures.{join, same-case as figure-case, copies-p5, P5}
 
 -- ---- the figure P5, spelled with masks and starts
 
@@ -36,17 +36,9 @@ disks = 2 ∷ 0 ∷ 0 ∷ []
 abbrev short : List ℕ
 short = 0 ∷ 99 ∷ 99 ∷ []
 
-same-starts : (d : ℕ) → getD (1 ∷ 0 ∷ 0 ∷ []) d 0 + getD (0 ∷ 2 ∷ 0 ∷ []) d 0 ≡ getD starts d 0
-same-starts zero = refl
-same-starts (suc zero) = refl
-same-starts (suc (suc zero)) = refl
-same-starts (suc (suc (suc d))) = refl
-
-same-case : asked copies-p5 ≡ spelled copies costs starts
-unfolding asked base join
-same-case =
-    ap₂ (λ (s : ℕ → ℕ) (h : ℕ → ℕ → Bool). record { disks = 3; blocks = 3; start = s; cost = λ d. getD costs d 0; copy = h })
-    (fun-ext same-starts) (fun-ext (λ b. fun-ext (same-copies copies-p5 b)))
+same-case : asked 0 copies-p5 ≡ spelled copies costs starts
+unfolding join left pick
+same-case = figure-case 0 copies-p5
 
 -- ---- plan
 

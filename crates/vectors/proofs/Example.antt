@@ -1,15 +1,15 @@
--- Document 01's example from end to end: its settings and its request give its plan, the figure P6.
-use Prim.Native.Nat.{ℕ, zero, suc, _+_, _≤_, _<_}
-use mathlib.Core.Bool.{Bool, true, false}
+-- Document 01's example from end to end: its settings and its request give its plan, the figure P6; a request at an age gives P10's.
+use Prim.Native.Nat.{ℕ, zero, suc, _≤_, _<_}
+use mathlib.Core.Bool.{true, false}
 use mathlib.Core.List.{List, [], _∷_, _++_}
-use mathlib.Core.Path.{_≡_, refl, ap₂, fun-ext, subst}
+use mathlib.Core.Path.{_≡_, refl, subst}
 use native.Mathlib.Omega.{arith}
 use borrow.Author.Tests.{eqb-true, eq-eqb}
 use lib.Dec.{eqb}
-use lib.ListN.{getD, replicate}
+use lib.ListN.{getD, take, replicate}
 use Rattle.model.specs.Assignment.{reads, Valid}
 use Rattle.model.specs.Capacity.{endTime}
-use Rattle.model.specs.Case.{Case, base, Schedule, endOf, response, HasTime}
+use Rattle.model.specs.Case.{Case, left, base, Schedule, endOf, response, HasTime}
 use Rattle.model.specs.Figures.{asked}
 use Rattle.model.specs.Plan.{Optimal}
 use Rattle.model.specs.Time.{LeastTime}
@@ -33,30 +33,20 @@ use Rattle.service.specs.Shelf.{due, shelfOf, Comes}
 use Rattle.vectors.specs.Text.{bytes}
 use Rattle.vectors.proofs.Opened.{plan-opened, unit-opened, program-opened}
 use Rattle.vectors.proofs.Settings.{three}
-use Rattle.vectors.proofs.Request.{copies, example as request}
+use Rattle.plan.specs.Plan.{Plan}
+use Rattle.vectors.proofs.Request.{copies, example as request, aged-copies, aged-example}
 use Rattle.vectors.proofs.Plan.{plan}
 use Rattle.vectors.proofs.Unit.{ready}
 use Rattle.vectors.proofs.Program.{example as input}
-use Rattle.vectors.proofs.Figures.{join, same-copies, copies-p6, P6}
-
--- a disk starts at delay plus load
-same-start : (d : ℕ) → getD (1 ∷ 0 ∷ 0 ∷ []) d 0 + getD (0 ∷ 2 ∷ 0 ∷ []) d 0 ≡ getD (1 ∷ 2 ∷ 0 ∷ []) d 0
-same-start zero = refl
-same-start (suc zero) = refl
-same-start (suc (suc zero)) = refl
-same-start (suc (suc (suc d))) = refl
+use Rattle.vectors.proofs.Figures.{join, same-case as figure-case, copies-p6, P6, copies-p7, P10}
 
 -- the settings and the request are the case of P6
-same-case : asked copies-p6 ≡ tableCase (table 3 three) copies
-unfolding unit-opened asked tableCase startOf diskRows costs base join
-same-case =
-    ap₂ {C = Case}
-    (λ (start : ℕ → ℕ) (copy : ℕ → ℕ → Bool). record
-    { disks = 3; blocks = 4; start = start; cost = λ d. getD (4 ∷ 3 ∷ 10 ∷ []) d 0; copy = copy })
-    (fun-ext same-start) (fun-ext (λ b. fun-ext (same-copies copies-p6 b)))
+same-case : asked 0 copies-p6 ≡ tableCase (table 3 three) 0 copies
+unfolding unit-opened tableCase startOf diskRows costs join
+same-case = figure-case 0 copies-p6
 
 -- R is 9, the disks are 0 0 1 1, the short set is 0 1 2 3
-plan-example : PlanFor (tableCase (table 3 three) copies) plan
+plan-example : PlanFor (tableCase (table 3 three) 0 copies) plan
 unfolding unit-opened plan-opened tableCase All Rises
 plan-example =
     record {
@@ -82,6 +72,49 @@ request-example = record {
   same = refl;
   reply = record { plan = got plan 17; plans = (plan, plan-example, refl); sent = record { answer = refl; held = refl } };
 }
+
+-- ---- at an age
+
+same-aged : asked 3 copies-p7 ≡ tableCase (table 3 three) 3 aged-copies
+unfolding unit-opened tableCase startOf diskRows costs join
+same-aged = figure-case 3 copies-p7
+
+abbrev aged-plan : Plan
+aged-plan = record { time = 6; disks = 0 ∷ 1 ∷ 1 ∷ []; short = 0 ∷ 1 ∷ 2 ∷ [] }
+
+-- R is 6, the disks are 0 1 1, the short set is 0 1 2
+plan-aged : PlanFor (tableCase (table 3 three) 3 aged-copies) aged-plan
+unfolding unit-opened plan-opened tableCase All Rises
+plan-aged =
+    record {
+      range = record {
+        few = omega arith;
+        time-from = omega arith;
+        time-to = omega arith;
+        disks = (omega arith, (omega arith, (omega arith, tt)));
+        size-from = omega arith;
+        size-to = omega arith;
+        blocks = (omega arith, omega arith, (omega arith, omega arith, (omega arith, omega arith, tt)));
+      };
+      blocks = refl;
+      optimal = subst (λ (m : Case). Optimal m 6 (λ b. getD (0 ∷ 1 ∷ 1 ∷ []) b 0) (listed (0 ∷ 1 ∷ 2 ∷ []))) same-aged P10;
+    }
+
+-- the unit answers a request of kind 4 with the plan of the loads that are left
+pub request-aged : Replied ready aged-example (replicate 14 0xEE) (record { answer = Length 13; unit = ready })
+    (bytes "03 07 AC 02 03 06 00 01 01 03 00 01 02 EE")
+unfolding unit-opened plan-opened
+request-aged = record {
+  same = refl;
+  reply = record { plan = got aged-plan 15; plans = (aged-plan, plan-aged, refl); sent = record { answer = refl; held = refl } };
+}
+
+-- and the bench takes it as it takes document 01's
+bench-aged : Line (benchInput (take 18 input ++ bytes "0F" ++ aged-example) 0) (ascii "plan 7 300 3 6 | 0 1 1 | 0 1 2\n")
+unfolding program-opened
+bench-aged = record { plan = got aged-plan 15; plans = (aged-plan, plan-aged, refl); says = refl }
+
+-- ---- programs
 
 abbrev plan-sheet : List ℕ
 plan-sheet = bytes "03 07 AC 02 04 09 00 00 01 01 04 00 01 02 03"
@@ -114,8 +147,8 @@ serve-no-room = (
 )
 
 -- a reason of document 01's plan
-because : (b d : ℕ) (r : Reason) → Why (tableCase (table 3 three) copies) 9 (λ i. getD (0 ∷ 0 ∷ 1 ∷ 1 ∷ []) i 0) b d r
-    → Reasons (tableCase (table 3 three) copies) b d r
+because : (b d : ℕ) (r : Reason) → Why (tableCase (table 3 three) 0 copies) 9 (λ i. getD (0 ∷ 0 ∷ 1 ∷ 1 ∷ []) i 0) b d r
+    → Reasons (tableCase (table 3 three) 0 copies) b d r
 because b d r h = record { time = 9; schedule = _; set = _; plan = plan-example .optimal; why = h }
 
 -- why block 0 is read from disk 0: it is the one chosen
@@ -138,12 +171,12 @@ unfolding endTime
 ten zero h = absurd (omega arith)
 ten (suc n) h = omega arith
 
-on-two : (a : ℕ → ℕ) → a 3 ≡ 2 → 10 ≤ response (asked copies-p6) a
-unfolding asked base endOf response reads
+on-two : (a : ℕ → ℕ) → a 3 ≡ 2 → 10 ≤ response (asked 0 copies-p6) a
+unfolding asked left pick base endOf response reads
 on-two a q =
     omega (
       arith,
-      latest-term 3 (endOf (asked copies-p6) a) 2 (omega arith),
+      latest-term 3 (endOf (asked 0 copies-p6) a) 2 (omega arith),
       ten (reads 4 a 2) (count-here 4 (λ b. eqb (a b) 2) 3 (omega arith) (eq-eqb (a 3) 2 q)),
     )
 
@@ -151,7 +184,7 @@ on-two a q =
 abbrev there : ℕ → ℕ
 there b = getD (0 ∷ 0 ∷ 1 ∷ 2 ∷ []) b 0
 
-there-reads : Schedule (forced (asked copies-p6) 3 2) there
+there-reads : Schedule (forced (asked 0 copies-p6) 3 2) there
 unfolding Schedule Valid forced asked base listed pick
 there-reads zero h = (omega arith, refl)
 there-reads (suc zero) h = (omega arith, refl)
@@ -159,19 +192,19 @@ there-reads (suc (suc zero)) h = (omega arith, refl)
 there-reads (suc (suc (suc zero))) h = (omega arith, refl)
 there-reads (suc (suc (suc (suc b)))) h = absurd (omega arith)
 
-there-ends : response (forced (asked copies-p6) 3 2) there ≡ 10
-unfolding forced asked base endOf response reads endTime count sum bit latest
+there-ends : response (forced (asked 0 copies-p6) 3 2) there ≡ 10
+unfolding forced asked left pick base endOf response reads endTime count sum bit latest
 there-ends = refl
 
-forced-least : LeastTime (forced (asked copies-p6) 3 2) 10
-unfolding Schedule Valid forced asked base pick response endOf
+forced-least : LeastTime (forced (asked 0 copies-p6) 3 2) 10
+unfolding Schedule Valid forced asked left base pick response endOf
 forced-least =
     record {
       lower = λ a h. on-two a (eqb-true (a 3) 2 (h 3 (omega arith) .1));
       reached = (there, there-reads, there-ends);
     }
 
-not-in-nine : Could (asked copies-p6) 9 3 2 → ⊥
+not-in-nine : Could (asked 0 copies-p6) 9 3 2 → ⊥
 unfolding Could HasTime
 not-in-nine x = omega (arith, on-two (x .0) (x .2), x .1 .1)
 
@@ -180,9 +213,9 @@ serve-later : Comes (shelfOf ready) (bytes "05 03 02 11" ++ request) false (due 
     (ascii "reason 2 10\n") (shelfOf ready)
 unfolding program-opened tableCase diskRows costs Why asked base listed
 serve-later =
-    let w : Why (tableCase (table 3 three) copies) 9 (λ i. getD (0 ∷ 0 ∷ 1 ∷ 1 ∷ []) i 0) 3 2 (Later 10) =
+    let w : Why (tableCase (table 3 three) 0 copies) 9 (λ i. getD (0 ∷ 0 ∷ 1 ∷ 1 ∷ []) i 0) 3 2 (Later 10) =
     subst (λ (m : Case). Why m 9 (λ i. getD (0 ∷ 0 ∷ 1 ∷ 1 ∷ []) i 0) 3 2 (Later 10)) same-case (refl, not-in-nine, forced-least) in
-    let r : Reasons (tableCase (table 3 three) copies) 3 2 (Later 10) = because 3 2 (Later 10) w in
+    let r : Reasons (tableCase (table 3 three) 0 copies) 3 2 (Later 10) = because 3 2 (Later 10) w in
     (refl, refl, (explained (got (Later 10) 0), ready, (got (Later 10) 0, (Later 10, r, refl), refl, refl), refl, refl))
 
 -- there is no block 4, and no disk 3

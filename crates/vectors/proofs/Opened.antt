@@ -17,8 +17,8 @@ use Rattle.settings.specs.Told.{tableOf}
 use Rattle.mask.specs.Has.{has}
 use Rattle.basics.specs.Count.{bit, sum, count}
 use Rattle.request.specs.Disks.{maskOf, disksBelow, disksOf}
-use Rattle.request.specs.Draft.{blockBytes, headingBytes, requestBytes, checked, requestDraft}
-use Rattle.request.specs.Request.{lastDisk, block, heading, requestSheet}
+use Rattle.request.specs.Draft.{blockBytes, ageBytes, headingBytes, requestBytes, aged, headed, checked, requestDraft}
+use Rattle.request.specs.Request.{lastDisk, block, opening as requestOpening, age, heading, body, requestSheet}
 use Rattle.plan.specs.Draft.{planNumbers, planBytes, planDraft, counted as countedPlan}
 use Rattle.plan.specs.Plan.{ifAny, timeOf, sizeOf, listsOf, planFields, planSheet}
 use Rattle.plan.specs.Receive.{ifRoom, heads, disksLeft, shortLeft}
@@ -27,7 +27,7 @@ use Rattle.unit.specs.Life.{takes, refuses, rent, settled, set, giveBack}
 use Rattle.planner.specs.Answered.{draftOf}
 use Rattle.planner.specs.Asked.{caseIn, Plans, asked as askedCase}
 use Rattle.unit.specs.Unit.{newUnit, tenancyOf, tenanted, returned}
-use Rattle.desk.specs.Desk.{settingsDraftOfBytes, requestDraftOfBytes, planIfRoom, setLeft}
+use Rattle.desk.specs.Desk.{settingsDraftOfBytes, tenancyWith, requestDraftOfBytes, planIfRoom, setLeft}
 use Rattle.lent.specs.Numbers.{valueOf, bytesOf, firstNumbers, numbers, broken}
 use Rattle.lent.specs.Packed.{packPlan, packRefused, writerAnswer, readerAnswer}
 use Rattle.line.specs.Text.{digit, digitsBy, decimal, spaced, pair, hex}
@@ -59,8 +59,8 @@ settings-opened = Unit
 
 unfoldable pub request-opened : Type 0
 unfolding
-    field-opened has bit sum count maskOf disksBelow disksOf blockBytes headingBytes requestBytes checked requestDraft
-    lastDisk block heading requestSheet
+    field-opened has bit sum count maskOf disksBelow disksOf blockBytes ageBytes headingBytes requestBytes aged headed checked requestDraft
+    lastDisk block requestOpening age heading body requestSheet
 request-opened = Unit
 
 unfoldable pub plan-opened : Type 0
@@ -77,7 +77,7 @@ unit-opened = Unit
 
 unfoldable pub desk-opened : Type 0
 unfolding
-    settings-opened request-opened plan-opened settingsDraftOfBytes requestDraftOfBytes planIfRoom setLeft
+    settings-opened request-opened plan-opened settingsDraftOfBytes tenancyWith requestDraftOfBytes planIfRoom setLeft
     valueOf bytesOf firstNumbers numbers broken packPlan packRefused writerAnswer readerAnswer
 desk-opened = Unit
 

@@ -89,12 +89,12 @@ eight-at-the-number-before : requestSheet 7 300 3 (bytes "02 07 AC 02 01 02 01 0
 eight-at-the-number-before h = let z = placesDiffer (note 8 7) (note 8 6) eight-placed h in omega (arith, z)
 
 -- nine disks, one of them at N: too many bits come first
-too-many-bits : requestDraft 7 300 8 (511 ∷ []) ≡ none (unplaced 6)
+too-many-bits : requestDraft 2 7 300 0 8 (511 ∷ []) ≡ none (unplaced 6)
 unfolding request-opened
 too-many-bits = refl
 
 -- a disk at N
-bit-at-n : requestDraft 7 300 3 (8 ∷ 0 ∷ []) ≡ none (unplaced 16)
+bit-at-n : requestDraft 2 7 300 0 3 (8 ∷ 0 ∷ []) ≡ none (unplaced 16)
 unfolding request-opened
 bit-at-n = refl
 

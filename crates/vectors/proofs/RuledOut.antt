@@ -39,7 +39,7 @@ use Rattle.vectors.proofs.Settings as settings
 use Rattle.vectors.proofs.Request as request
 use Rattle.vectors.proofs.Plan as plan
 use Rattle.vectors.proofs.Unit as unit
-use Rattle.vectors.proofs.Example.{request-example}
+use Rattle.vectors.proofs.Example.{request-example, request-aged}
 use Rattle.vectors.proofs.Engine.{copies, costs, starts, blank, plan-p5}
 use Rattle.vectors.proofs.Desk as desk
 use Rattle.vectors.proofs.Call as call
@@ -96,9 +96,25 @@ sixteen-and-eight-exchanged : requestSheet 7 300 3 (bytes "02 07 AC 02 01 01 03"
 unfolding desk-opened numbered judged by byte
 sixteen-and-eight-exchanged h = let z : _≡_ {A = ℕ} 16 8 = apart numbered request.disk-at-n h in omega (arith, z)
 
-no-copies-written-as-six : requestDraft 7 300 3 (3 ∷ 0 ∷ []) ≡ none (unplaced 6) → ⊥
+no-copies-written-as-six : requestDraft 2 7 300 0 3 (3 ∷ 0 ∷ []) ≡ none (unplaced 6) → ⊥
 unfolding desk-opened numbered judged by byte
 no-copies-written-as-six h = let z : _≡_ {A = ℕ} 1007 1006 = apart (byte 0) request.draft-no-copies h in omega (arith, z)
+
+ten-after-the-age : requestSheet 7 300 0 (bytes "04 07 AC 02") 0 ≡ refused (note 1 4) → ⊥
+unfolding desk-opened numbered judged by byte
+ten-after-the-age h = let z : _≡_ {A = ℕ} 10 1 = apart numbered request.ten-before-the-age h in omega (arith, z)
+
+three-after-the-tenancy : requestDraft 3 7 0 1 0 (0 ∷ []) ≡ none (unplaced 6) → ⊥
+unfolding desk-opened numbered judged by byte
+three-after-the-tenancy h = let z : _≡_ {A = ℕ} 1003 1006 = apart (byte 0) request.write-kind h in omega (arith, z)
+
+age-zero-as-kind-two : requestDraft 4 7 300 0 3 (3 ∷ []) ≡ sheet (bytes "02 07 AC 02 01 02 00 01") → ⊥
+unfolding desk-opened numbered judged by byte
+age-zero-as-kind-two h = let z : _≡_ {A = ℕ} 4 2 = apart (byte 0) request.write-age-zero h in omega (arith, z)
+
+fifteen-after-n : requestDraft 2 7 300 1 0 (0 ∷ []) ≡ none (unplaced 6) → ⊥
+unfolding desk-opened numbered judged by byte
+fifteen-after-n h = let z : _≡_ {A = ℕ} 1015 1006 = apart (byte 0) request.write-age-of-two h in omega (arith, z)
 
 -- ---- plan
 
@@ -162,6 +178,14 @@ module _ (after : List ℕ)
   unfolding desk-opened numbered judged by byte
   size-made-up h = let z : _≡_ {A = ℕ} 4 (getD after 10 0) = ap (λ (l : List ℕ). getD l 10 0) the-sheet in omega (arith, z, h)
 
+-- the loads of a request at age 3, whole
+age-forgotten : (after : List ℕ)
+    → Replied unit.ready request.aged-example (replicate 14 0xEE) (record { answer = Length 13; unit = unit.ready }) after
+    → getD after 5 0 ≡ 8 → ⊥
+unfolding desk-opened numbered judged by byte
+age-forgotten after w h =
+    let z : _≡_ {A = ℕ} 6 (getD after 5 0) = ap (λ (l : List ℕ). getD l 5 0) (request-unique request-aged w .1) in omega (arith, z, h)
+
 rented-as-13 : rent unit.ready 299 ≡ record { verdict = refusedWith (unplaced 13); unit = unit.ready } → ⊥
 unfolding desk-opened numbered judged by byte
 rented-as-13 h = let z : _≡_ {A = ℕ} 12 13 = apart judged unit.rent-rented h in omega (arith, z)
@@ -196,11 +220,11 @@ time-in-wrong-bits : (d m : List ℕ)
 unfolding desk-opened numbered judged by byte
 time-in-wrong-bits d m w = let z = plan-read-unique _ _ _ _ _ _ _ _ _ _ _ desk.plan-example w .0 in omega (arith, z)
 
-broken-copies-accepted : requestDraftOfBytes 7 300 3 (bytes "03 00 00 00") ≡ sheet (bytes "02 07 AC 02 00") → ⊥
+broken-copies-accepted : requestDraftOfBytes 2 7 300 0 3 (bytes "03 00 00 00") ≡ sheet (bytes "02 07 AC 02 00") → ⊥
 unfolding desk-opened numbered judged by byte
 broken-copies-accepted h = let z : _≡_ {A = ℕ} 1006 2 = apart (byte 0) desk.request-broken h in omega (arith, z)
 
-halves-swapped : requestDraftOfBytes 7 300 64 (bytes "01 00 00 00 00 00 00 80") ≡ sheet (bytes "02 07 AC 02 01 02 1F 20") → ⊥
+halves-swapped : requestDraftOfBytes 2 7 300 0 64 (bytes "01 00 00 00 00 00 00 80") ≡ sheet (bytes "02 07 AC 02 01 02 1F 20") → ⊥
 unfolding desk-opened numbered judged by byte
 halves-swapped h = let z : _≡_ {A = ℕ} 0 31 = apart (byte 6) desk.request-disk-63 h in omega (arith, z)
 
@@ -216,6 +240,6 @@ unfolding desk-opened numbered judged by byte
 return-for-rent h =
     let q : got (returns 300) 3 ≡ got (rents 300) 3 = sym call.call-return ∙ h in absurd (let o : _≡_ {A = ℕ} 0 1 = cc in omega arith)
 
-length-awaited : asked (bytes "02 8E 48") 0 ≡ refused (note 1 3) → ⊥
+length-awaited : asked (bytes "02 93 48") 0 ≡ refused (note 1 3) → ⊥
 unfolding desk-opened numbered judged by byte
 length-awaited h = let z : _≡_ {A = ℕ} 6 1 = apart numbered call.call-length h in omega (arith, z)

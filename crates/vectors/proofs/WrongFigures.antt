@@ -4,6 +4,10 @@
 --     later-schedule                        a schedule of the same time, not the first (P6)
 --     later-time                            one microsecond more (P7)
 --     rounded-up                            a block before its disk has read it (P9)
+--     age-not-taken, age-wraps              the whole load; a load below the age, as a machine subtracts (P10)
+--     load-and-delay-exchanged              the age off the delay (P10)
+--     whole-load-taken                      nothing of a load that is above the age (P11)
+--     age-off-the-start                     the age off delay and load together (P12)
 use Prim.Native.Nat.{ℕ}
 use mathlib.Core.Bool.{true, false}
 use mathlib.Core.List.{List, [], _∷_, map}
@@ -18,21 +22,17 @@ use Rattle.model.specs.Order.{Agree}
 use Rattle.model.specs.Plan.{Optimal}
 use Rattle.model.proofs.Figures.{figures}
 use Rattle.model.proofs.Plan.{plan-unique}
-use Rattle.vectors.proofs.Figures.{copies-p5, P5, copies-p6, P6}
+use Rattle.vectors.proofs.Figures.{copies-p5, P5, copies-p6, P6, copies-p7, P10}
 
 -- {0,1} {0}
 abbrev copies-p4 : List (List ℕ)
 copies-p4 = (0 ∷ 1 ∷ []) ∷ (0 ∷ []) ∷ []
 
-P4 : Optimal (asked copies-p4) 5 (λ b. getD (1 ∷ 0 ∷ []) b 0) (listed (0 ∷ 1 ∷ []))
+P4 : Optimal (asked 0 copies-p4) 5 (λ b. getD (1 ∷ 0 ∷ []) b 0) (listed (0 ∷ 1 ∷ []))
 unfolding AllHold Holds table
 P4 = figures .1 .1 .1 .0 .plan
 
--- {0,1} {0,1} {0,1}
-abbrev copies-p7 : List (List ℕ)
-copies-p7 = (0 ∷ 1 ∷ []) ∷ (0 ∷ 1 ∷ []) ∷ (0 ∷ 1 ∷ []) ∷ []
-
-P7 : Optimal (asked copies-p7) 8 (λ b. getD (0 ∷ 1 ∷ 1 ∷ []) b 0) (listed (0 ∷ 1 ∷ 2 ∷ []))
+P7 : Optimal (asked 0 copies-p7) 8 (λ b. getD (0 ∷ 1 ∷ 1 ∷ []) b 0) (listed (0 ∷ 1 ∷ 2 ∷ []))
 unfolding AllHold Holds table
 P7 = figures .1 .1 .1 .1 .1 .1 .0 .plan
 
@@ -40,33 +40,58 @@ P7 = figures .1 .1 .1 .1 .1 .1 .0 .plan
 abbrev times : List ℕ
 times = 1 ∷ 4 ∷ 5 ∷ 7 ∷ 8 ∷ []
 
-P9 : map (λ t. capacityAt (asked []) t 1) times ≡ 0 ∷ 0 ∷ 1 ∷ 1 ∷ 2 ∷ []
+P9 : map (λ t. capacityAt (asked 0 []) t 1) times ≡ 0 ∷ 0 ∷ 1 ∷ 1 ∷ 2 ∷ []
 unfolding AllHold Holds table
 P9 = figures .1 .1 .1 .1 .1 .1 .1 .1 .0
 
-soonest-copy : Answer copies-p4 9 (0 ∷ 0 ∷ []) (0 ∷ 1 ∷ []) → ⊥
-soonest-copy w = omega (arith, plan-unique (asked copies-p4) 5 9 _ _ _ _ P4 (w .plan) .0)
+-- {1} at age 1, {0} at age 3
+P11 : Optimal (asked 1 ((1 ∷ []) ∷ [])) 4 (λ b. getD (1 ∷ []) b 0) (listed (0 ∷ []))
+unfolding AllHold Holds table
+P11 = figures .1 .1 .1 .1 .1 .1 .1 .1 .1 .1 .0 .plan
 
-larger-short-set : Answer copies-p5 10 (2 ∷ 0 ∷ 0 ∷ []) (0 ∷ 1 ∷ 2 ∷ []) → ⊥
+P12 : Optimal (asked 3 ((0 ∷ []) ∷ [])) 5 (λ b. getD (0 ∷ []) b 0) (listed (0 ∷ []))
+unfolding AllHold Holds table
+P12 = figures .1 .1 .1 .1 .1 .1 .1 .1 .1 .1 .1 .0 .plan
+
+soonest-copy : Answer 0 copies-p4 9 (0 ∷ 0 ∷ []) (0 ∷ 1 ∷ []) → ⊥
+soonest-copy w = omega (arith, plan-unique (asked 0 copies-p4) 5 9 _ _ _ _ P4 (w .plan) .0)
+
+larger-short-set : Answer 0 copies-p5 10 (2 ∷ 0 ∷ 0 ∷ []) (0 ∷ 1 ∷ 2 ∷ []) → ⊥
 unfolding Agree asked base listed
 larger-short-set w =
-    let e : false ≡ true = plan-unique (asked copies-p5) 10 10 _ _ _ _ P5 (w .plan) .2 1 (omega arith) in
+    let e : false ≡ true = plan-unique (asked 0 copies-p5) 10 10 _ _ _ _ P5 (w .plan) .2 1 (omega arith) in
     differ e refl
 
-other-short-set : Answer copies-p5 10 (2 ∷ 0 ∷ 0 ∷ []) (1 ∷ []) → ⊥
+other-short-set : Answer 0 copies-p5 10 (2 ∷ 0 ∷ 0 ∷ []) (1 ∷ []) → ⊥
 unfolding Agree asked base listed
 other-short-set w =
-    let e : false ≡ true = plan-unique (asked copies-p5) 10 10 _ _ _ _ P5 (w .plan) .2 1 (omega arith) in
+    let e : false ≡ true = plan-unique (asked 0 copies-p5) 10 10 _ _ _ _ P5 (w .plan) .2 1 (omega arith) in
     differ e refl
 
-later-schedule : Answer copies-p6 9 (0 ∷ 1 ∷ 0 ∷ 1 ∷ []) (0 ∷ 1 ∷ 2 ∷ 3 ∷ []) → ⊥
+later-schedule : Answer 0 copies-p6 9 (0 ∷ 1 ∷ 0 ∷ 1 ∷ []) (0 ∷ 1 ∷ 2 ∷ 3 ∷ []) → ⊥
 unfolding Agree asked base
 later-schedule w =
-    let e : _≡_ {A = ℕ} 0 1 = plan-unique (asked copies-p6) 9 9 _ _ _ _ P6 (w .plan) .1 1 (omega arith) in
+    let e : _≡_ {A = ℕ} 0 1 = plan-unique (asked 0 copies-p6) 9 9 _ _ _ _ P6 (w .plan) .1 1 (omega arith) in
     omega (arith, e)
 
-later-time : Answer copies-p7 9 (0 ∷ 1 ∷ 1 ∷ []) (0 ∷ 1 ∷ 2 ∷ []) → ⊥
-later-time w = omega (arith, plan-unique (asked copies-p7) 8 9 _ _ _ _ P7 (w .plan) .0)
+later-time : Answer 0 copies-p7 9 (0 ∷ 1 ∷ 1 ∷ []) (0 ∷ 1 ∷ 2 ∷ []) → ⊥
+later-time w = omega (arith, plan-unique (asked 0 copies-p7) 8 9 _ _ _ _ P7 (w .plan) .0)
 
-rounded-up : map (λ t. capacityAt (asked []) t 1) times ≡ 0 ∷ 1 ∷ 1 ∷ 1 ∷ 2 ∷ [] → ⊥
+rounded-up : map (λ t. capacityAt (asked 0 []) t 1) times ≡ 0 ∷ 1 ∷ 1 ∷ 1 ∷ 2 ∷ [] → ⊥
 rounded-up h = let z : _≡_ {A = ℕ} 0 1 = ap (λ (l : List ℕ). getD l 1 0) (sym P9 ∙ h) in omega (arith, z)
+
+age-not-taken : Answer 3 copies-p7 8 (0 ∷ 1 ∷ 1 ∷ []) (0 ∷ 1 ∷ 2 ∷ []) → ⊥
+age-not-taken w = omega (arith, plan-unique (asked 3 copies-p7) 6 8 _ _ _ _ P10 (w .plan) .0)
+
+-- disk 1 would start after everything else has ended
+age-wraps : Answer 3 copies-p7 13 (0 ∷ 0 ∷ 0 ∷ []) (0 ∷ 1 ∷ 2 ∷ []) → ⊥
+age-wraps w = omega (arith, plan-unique (asked 3 copies-p7) 6 13 _ _ _ _ P10 (w .plan) .0)
+
+load-and-delay-exchanged : Answer 3 copies-p7 8 (0 ∷ 0 ∷ 1 ∷ []) (0 ∷ 1 ∷ 2 ∷ []) → ⊥
+load-and-delay-exchanged w = omega (arith, plan-unique (asked 3 copies-p7) 6 8 _ _ _ _ P10 (w .plan) .0)
+
+whole-load-taken : Answer 1 ((1 ∷ []) ∷ []) 3 (1 ∷ []) (0 ∷ []) → ⊥
+whole-load-taken w = omega (arith, plan-unique (asked 1 ((1 ∷ []) ∷ [])) 4 3 _ _ _ _ P11 (w .plan) .0)
+
+age-off-the-start : Answer 3 ((0 ∷ []) ∷ []) 4 (0 ∷ []) (0 ∷ []) → ⊥
+age-off-the-start w = omega (arith, plan-unique (asked 3 ((0 ∷ []) ∷ [])) 5 4 _ _ _ _ P12 (w .plan) .0)

@@ -15,14 +15,14 @@ struct Parts {
 }
 
 impl Parts {
-    fn new(unit: u32, tenancy: u32, case: &Case) -> Self {
+    fn new(unit: u32, tenancy: u32, age: Option<u32>, case: &Case) -> Self {
         Parts {
             head: vec![
                 Field::new(Role::Unit, unit),
                 Field::new(Role::Tenancy, tenancy),
             ],
             settings: settings(unit, tenancy, &case.disks),
-            request: request(unit, tenancy, &case.copies),
+            request: request(unit, tenancy, age, &case.copies),
         }
     }
 
@@ -45,28 +45,27 @@ impl Parts {
     }
 }
 
-/// The document's sample and a wider input of the same kind.
-fn examples() -> [Parts; 2] {
+/// The document's sample, a wider input of the same kind, and requests with an age.
+fn examples() -> Vec<Parts> {
     let row = |cost, load, delay| Disk { cost, load, delay };
     let disks = vec![row(4, 0, 1), row(3, 2, 0), row(10, 0, 0)];
     let wide = vec![row(300, 70_000, 1_000), row(20_000, 5, 0), row(1, 0, 400)];
-    [
-        Parts::new(
-            7,
-            300,
-            &Case {
-                disks,
-                copies: vec![3, 3, 3, 6],
-            },
-        ),
-        Parts::new(
-            70_000,
-            4_000_000_000,
-            &Case {
-                disks: wide,
-                copies: vec![7, 2, 5],
-            },
-        ),
+    let small = Case {
+        disks,
+        copies: vec![3, 3, 3, 6],
+    };
+    let wide = Case {
+        disks: wide,
+        copies: vec![7, 2, 5],
+    };
+    let aged = Case {
+        disks: vec![row(3, 300, 0), row(5, 2, 0)],
+        copies: vec![3, 1],
+    };
+    vec![
+        Parts::new(7, 300, None, &small),
+        Parts::new(70_000, 4_000_000_000, None, &wide),
+        Parts::new(7, 300, Some(299), &aged),
     ]
 }
 
@@ -125,7 +124,8 @@ pub fn input(seed: u64, index: u64) -> Vec<u8> {
 
 fn parts(random: &mut Random, family: fn(&mut Random) -> Case) -> Parts {
     let case = family(random);
-    Parts::new(random.number(), random.number().max(1), &case)
+    let age = whole::age(random, &case.disks);
+    Parts::new(random.number(), random.number().max(1), age, &case)
 }
 
 /// So many faults, in the sheets or in the row of all fields.
@@ -135,7 +135,8 @@ fn damaged(random: &mut Random, faults: u32) -> Vec<u8> {
     } else {
         whole::small(random)
     };
-    let mut parts = Parts::new(random.number(), random.number(), &case);
+    let age = whole::age(random, &case.disks);
+    let mut parts = Parts::new(random.number(), random.number(), age, &case);
     let outer = random.within(0, faults);
     for _ in outer..faults {
         let which = random.index(2);

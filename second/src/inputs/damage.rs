@@ -58,8 +58,8 @@ pub const FAULTS: [Fault; 21] = [
 /// The highest value of a field's range; disks and blocks by the widest range there is.
 fn highest(role: Role) -> u32 {
     match role {
-        Role::Kind => 3,
-        Role::Unit | Role::Tenancy | Role::AnyNumber => u32::MAX,
+        Role::Kind => 4,
+        Role::Unit | Role::Tenancy | Role::Age | Role::AnyNumber => u32::MAX,
         Role::DiskCount => MOST_DISKS,
         Role::Cost => MOST_COST,
         Role::Load => MOST_LOAD,
@@ -69,7 +69,7 @@ fn highest(role: Role) -> u32 {
         Role::Disk => MOST_DISKS - 1,
         Role::Time => MOST_TIME,
         Role::Block => MOST_BLOCKS - 1,
-        Role::Length => 9_229,
+        Role::Length => 9_234,
         Role::Room => 4_096,
     }
 }

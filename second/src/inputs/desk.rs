@@ -8,7 +8,7 @@ use crate::inputs::whole::{self, Case};
 use crate::model::{Disk, Plan, MOST_COST, MOST_DELAY, MOST_LOAD};
 use crate::planner;
 use crate::random::Random;
-use crate::sheets::{write_request, write_settings};
+use crate::sheets::{write_request, write_settings, Wanted};
 
 /// What a writer is told: the numbers after the room, then the lists.
 #[derive(Clone)]
@@ -143,20 +143,29 @@ fn settings_lines() -> Vec<String> {
 
 /// The request writer with every fault that a block can have, and a list that is broken.
 fn request_lines() -> Vec<String> {
-    let told = Told {
+    let plain = Told {
         writer: "request",
-        numbers: vec![700, 300, 9],
+        numbers: vec![2, 700, 300, 0, 9],
         lists: vec![list_of(&[3, 256, 384], 8)],
     };
-    let mut changes = vec![set_number(1, 0)];
-    changes.extend([0, 1, 8, 64, 65, u32::MAX].map(|disks| set_number(2, disks)));
+    let aged = Told {
+        numbers: vec![4, 700, 300, 300, 9],
+        ..plain.clone()
+    };
+    let mut changes = vec![set_number(2, 0)];
+    changes.extend([0, 1, 2, 3, 4, 5, u32::MAX].map(|kind| set_number(0, kind)));
+    changes.extend([0, 1, u32::MAX].map(|age| set_number(3, age)));
+    changes.extend([0, 1, 8, 64, 65, u32::MAX].map(|disks| set_number(4, disks)));
     changes.extend((1..=8).map(shorten_all));
     changes.extend([0, 1_024, 1_025].map(|blocks| resize_all(blocks, 8)));
     let faulty = [0, 255, 511, 512, 1023, 1 << 63, u64::MAX];
     for block in 0..3 {
         changes.extend(faulty.map(|copies| set_entry(0, block, 8, copies)));
     }
-    changed(&told, &changes)
+    let mut lines = changed(&plain, &changes);
+    changes.truncate(12);
+    lines.extend(changed(&aged, &changes));
+    lines
 }
 
 /// The plan reader: damaged sheets with room and without, other units and tenancies, and rooms about the lengths.
@@ -337,8 +346,24 @@ fn request(random: &mut Random) -> String {
     for _ in 0..*random.pick(&[0, 0, 0, 1, 2]) {
         spoil_copies(random, count.clamp(1, 64), &mut copies);
     }
-    let length =
-        write_request(unit, tenancy, count, &copies, usize::MAX).map_or(20, |sheet| sheet.len());
+    let age = whole::age(random, &disks);
+    let (mut kind, mut age) = (if age.is_some() { 4 } else { 2 }, age.unwrap_or(0));
+    match random.within(1, 30) {
+        1 => kind = *random.pick(&[0, 1, 3, 5, 6, 7]),
+        2 => kind = random.number(),
+        3 => kind = 6 - kind,
+        4 => age = random.number(),
+        _ => {}
+    }
+    let wanted = Wanted {
+        kind,
+        unit,
+        tenancy,
+        age,
+        disks: count,
+        copies: Some(&copies),
+    };
+    let length = write_request(&wanted, usize::MAX).map_or(20, |sheet| sheet.len());
     let room = room(random, length);
     let mut list: Vec<u8> = copies
         .iter()
@@ -348,7 +373,7 @@ fn request(random: &mut Random) -> String {
         list.truncate(list.len().saturating_sub(random.index(9)));
     }
     format!(
-        "request {room} {unit} {tenancy} {count} {}",
+        "request {room} {kind} {unit} {tenancy} {age} {count} {}",
         hex::word(&list)
     )
 }

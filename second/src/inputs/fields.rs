@@ -9,6 +9,7 @@ pub enum Role {
     Kind,
     Unit,
     Tenancy,
+    Age,
     DiskCount,
     Cost,
     Load,
@@ -67,8 +68,10 @@ pub fn settings(unit: u32, tenancy: u32, disks: &[Disk]) -> Vec<Field> {
     fields
 }
 
-pub fn request(unit: u32, tenancy: u32, copies: &[u64]) -> Vec<Field> {
-    let mut fields = head(2, unit, tenancy);
+/// Of kind 2, or with an age of kind 4.
+pub fn request(unit: u32, tenancy: u32, age: Option<u32>, copies: &[u64]) -> Vec<Field> {
+    let mut fields = head(if age.is_some() { 4 } else { 2 }, unit, tenancy);
+    fields.extend(age.map(|age| Field::new(Role::Age, age)));
     fields.push(Field::new(Role::BlockCount, copies.len() as u32));
     for &block in copies {
         fields.push(Field::new(Role::CopyCount, block.count_ones()));

@@ -39,11 +39,11 @@ impl Walk {
         Some(value)
     }
 
-    fn head(&mut self) -> Option<()> {
-        self.number("kind")?;
+    fn head(&mut self) -> Option<u64> {
+        let kind = self.number("kind")?;
         self.number("unit")?;
         self.number("tenancy")?;
-        Some(())
+        Some(kind)
     }
 
     fn settings(&mut self) -> Option<()> {
@@ -58,7 +58,9 @@ impl Walk {
     }
 
     fn request(&mut self) -> Option<()> {
-        self.head()?;
+        if self.head()? == 4 {
+            self.number("age")?;
+        }
         for _ in 0..self.number("Q")? {
             let count = self.number("k")?;
             for copy in 0..count {
@@ -148,7 +150,8 @@ fn settings_names() -> Names {
 }
 
 fn request_names() -> Names {
-    let blocks: [(&str, &[u32]); 4] = [
+    let blocks: [(&str, &[u32]); 5] = [
+        ("age", &[]),
         ("Q", &[6]),
         ("k", &[6, 7]),
         ("first copy", &[16]),
@@ -381,7 +384,10 @@ fn entries(word: &str, width: usize) -> Option<Vec<u64>> {
             .rev()
             .fold(0, |value, &byte| value << 8 | u64::from(byte))
     };
-    (bytes.len() % width == 0).then(|| bytes.chunks(width).map(number).collect())
+    bytes
+        .len()
+        .is_multiple_of(width)
+        .then(|| bytes.chunks(width).map(number).collect())
 }
 
 fn settings_faults(words: &[String]) -> Faults {
@@ -426,14 +432,20 @@ fn settings_faults(words: &[String]) -> Faults {
 
 fn request_faults(words: &[String]) -> Faults {
     let mut faults = Faults::new();
-    if words[3] == "0" {
+    if !["2", "4"].contains(&&words[2][..]) {
+        faults.push((3, "kind"));
+    }
+    if words[4] == "0" {
         faults.push((6, "tenancy"));
     }
-    let blocks = entries(&words[5], 8);
+    let blocks = entries(&words[7], 8);
     if blocks.is_none() {
         faults.push((6, "broken"));
     }
-    let disks: u64 = words[4].parse().unwrap();
+    if words[2] == "2" && words[5] != "0" {
+        faults.push((15, "age"));
+    }
+    let disks: u64 = words[6].parse().unwrap();
     match disks {
         0 => faults.push((6, "N low")),
         65.. => faults.push((6, "N high")),
@@ -531,9 +543,21 @@ fn the_writers_are_refused_for_every_fault() {
     ];
     check_writer("settings", settings_faults, &settings, &together);
     let request = [
-        "tenancy", "broken", "N low", "N high", "Q", "no bits", "bits", "bit at N",
+        "kind", "tenancy", "broken", "age", "N low", "N high", "Q", "no bits", "bits", "bit at N",
     ];
     let together = [
+        ("kind", "tenancy"),
+        ("kind", "broken"),
+        ("kind", "N low"),
+        ("kind", "no bits"),
+        ("tenancy", "age"),
+        ("broken", "age"),
+        ("age", "N low"),
+        ("age", "N high"),
+        ("age", "Q"),
+        ("age", "no bits"),
+        ("age", "bits"),
+        ("age", "bit at N"),
         ("tenancy", "broken"),
         ("tenancy", "N low"),
         ("tenancy", "bit at N"),

@@ -140,7 +140,8 @@ impl Hire {
 
     fn request(&mut self, random: &mut Random) -> Vec<u8> {
         let copies = self.copies(random);
-        let mut fields = request(self.number, self.last, &copies);
+        let age = whole::age(random, &self.case.disks);
+        let mut fields = request(self.number, self.last, age, &copies);
         maybe_damage(random, &mut fields);
         let sheet = bytes(&fields);
         self.send_request(random, sheet)
@@ -158,7 +159,8 @@ impl Hire {
     /// A block and one of its disks, another disk, or numbers out of range; the request may be damaged or an old one.
     fn reason(&mut self, random: &mut Random) -> Vec<u8> {
         let copies = self.copies(random);
-        let mut fields = request(self.number, self.last, &copies);
+        let age = whole::age(random, &self.case.disks);
+        let mut fields = request(self.number, self.last, age, &copies);
         maybe_damage(random, &mut fields);
         let mut sheet = bytes(&fields);
         if !self.requests_sent.is_empty() && random.once_in(8) {
@@ -222,7 +224,8 @@ impl Hire {
 
     /// A call with which the stream itself is damaged, most likely.
     fn damaged_call(&mut self, random: &mut Random) -> Vec<u8> {
-        let sheet = request(self.number, self.last, &self.case.copies);
+        let age = whole::age(random, &self.case.disks);
+        let sheet = request(self.number, self.last, age, &self.case.copies);
         let kind = *random.pick(&[1, 2, 2, 2, 3, 3, 3, 3, 4, 5, 5, 5, 0, 6]);
         let mut fields = vec![Field::new(Role::Kind, kind)];
         match kind {
@@ -309,7 +312,10 @@ fn in_each_state() -> Vec<Stream> {
         let call = |room| [vec![3], shortest(room), bytes(&with_length(sheet))].concat();
         (0..=20).chain([MOST_ROOM]).map(call).collect()
     };
-    let nothing = request(700, 300, &[]);
+    let aged = |age, copies: &[u64]| request(700, 300, Some(age), copies);
+    let nothing = request(700, 300, None, &[]);
+    let nothing_aged = aged(300, &[]);
+    let ages = [0, 1, 199, 200, 201, u32::MAX].map(|age| aged(age, &[3, 3, 6]));
     let reasons = |sheet: &[Field]| -> Stream {
         let pairs = (0..5).flat_map(|block| [0, 1, 2, 3, 63, 64].map(|disk| (block, disk)));
         let call = |(block, disk)| [vec![5, block, disk], bytes(&with_length(sheet))].concat();
@@ -325,8 +331,13 @@ fn in_each_state() -> Vec<Stream> {
         calls(&[5, 0, 0], &read),
         calls(&[5, 9, 9], &read),
         reasons(&read),
-        reasons(&request(700, 300, &[3, 3, 3, 6])),
+        reasons(&request(700, 300, None, &[3, 3, 3, 6])),
         reasons(&nothing),
+        calls(&[3, 99], &aged(130, &[3, 6])),
+        calls(&[5, 0, 1], &aged(200, &[3, 2])),
+        calls(&[3, 99], &nothing_aged),
+        ages.iter().flat_map(|sheet| rooms(sheet)).collect(),
+        ages.iter().flat_map(|sheet| reasons(sheet)).collect(),
     ]
     .concat();
     let rent = vec![[shortest(1), shortest(300)].concat()];
@@ -346,12 +357,13 @@ fn in_each_state() -> Vec<Stream> {
 fn example_sheets() -> (Vec<Field>, Vec<Field>) {
     let row = |cost, load, delay| Disk { cost, load, delay };
     let table = settings(700, 300, &[row(4, 0, 1), row(3, 200, 0), row(10, 0, 0)]);
-    (table, request(700, 300, &[3, 3, 6]))
+    (table, request(700, 300, None, &[3, 3, 6]))
 }
 
-/// Rent, settings, request, reason, return, and the old request to the next tenant.
+/// Rent, settings, request, reason, request with an age, return, and the old request to the next tenant.
 fn example() -> Vec<Field> {
     let (table, read) = example_sheets();
+    let aged = request(700, 300, Some(200), &[3]);
     let pair = [0, 1].map(|number| Field::new(Role::AnyNumber, number));
     let call = |kind| vec![Field::new(Role::Kind, kind)];
     let tenancy = |value| vec![Field::new(Role::Tenancy, value)];
@@ -362,6 +374,7 @@ fn example() -> Vec<Field> {
         [call(2), with_length(&table)].concat(),
         [call(3), room.clone(), with_length(&read)].concat(),
         [call(5), pair.to_vec(), with_length(&read)].concat(),
+        [call(3), room.clone(), with_length(&aged)].concat(),
         [call(4), tenancy(300)].concat(),
         [call(1), tenancy(301)].concat(),
         [call(3), room, with_length(&read)].concat(),

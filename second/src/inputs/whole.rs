@@ -19,6 +19,23 @@ pub fn table(random: &mut Random, disks: u32, cost: u32, load: u32, delay: u32) 
     (0..disks).map(|_| row()).collect()
 }
 
+/// An age about the loads of a table: none, equal to one of them, one less or more, larger than all.
+pub fn age(random: &mut Random, disks: &[Disk]) -> Option<u32> {
+    let load = random.pick(disks).load;
+    let most = disks.iter().map(|disk| disk.load).max().unwrap_or(0);
+    match random.within(1, 16) {
+        1..=6 => None,
+        7 => Some(0),
+        8 | 9 => Some(load),
+        10 => Some(load.saturating_sub(1)),
+        11 => Some(load + 1),
+        12 => Some(u32::MAX),
+        13 => Some(random.number()),
+        14 => Some(most + random.within(0, 1)),
+        _ => Some(random.within(0, most)),
+    }
+}
+
 /// So many different disks of low to high, as a copy number.
 fn choose(random: &mut Random, count: u32, low: u32, high: u32) -> u64 {
     let count = count.min(high - low + 1);

@@ -10,20 +10,26 @@ use Rattle.planner.proofs.columns.Statement.{statement}
 use Rattle.planner.proofs.columns.Tie as tie
 
 abbrev Inv-loop : tie.InvT-loop
-Inv-loop costs₀ starts₀ rows i₀ costs starts i = UpTo rows costs starts i
+Inv-loop age costs₀ starts₀ rows i₀ costs starts i = UpTo age rows costs starts i
 
 abbrev μ-loop : tie.MeasureT-loop
-μ-loop costs₀ starts₀ rows i₀ costs starts i = disksMost - i
+μ-loop age costs₀ starts₀ rows i₀ costs starts i = disksMost - i
 
 loop-holds : tie.Need-loop-holds Inv-loop μ-loop
-loop-holds c = upto-start _ _ _ (c .before .pre .1) (c .before .pre .2)
+loop-holds c = upto-start _ _ _ _ (c .before .pre .1) (c .before .pre .2)
 
 add-starts : tie.Need-add-starts Inv-loop μ-loop
 unfolding startOf
-add-starts c = omega (arith, start-small (c .before .before .before .before .before .pre .0) (c .before .before .before .loop .i))
+add-starts c =
+    let at-loop = c .before .before .before .before in
+    let at-start = at-loop .before .before in
+    omega (arith, c .before .left .ensures, start-small (at-start .pre .0) (at-start .args .age) (at-loop .loop .i))
 
 loop-again : tie.Need-loop-again Inv-loop μ-loop
-loop-again c = upto-step _ (c .before .before .loop-test .taken) refl (c .before .before .before .loop .inv)
+unfolding startOf
+loop-again c =
+    let at-test = c .before .before .before in
+    upto-step _ _ (at-test .loop-test .taken) refl (rw (c .before .left .ensures)) (at-test .before .loop .inv)
 
 returns : tie.Need-returns Inv-loop μ-loop
 returns c = upto-done (c .before .before .before .pre .0) (c .loop-test .left) (c .before .loop .inv)
@@ -39,6 +45,7 @@ columns-spec =
     (λ c. search needs)
     (λ c. search needs)
     (λ c. search needs)
+    (λ c κs. search needs)
     add-starts
     (λ c. search needs)
     (λ c. search needs)

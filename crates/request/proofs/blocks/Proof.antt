@@ -10,28 +10,27 @@ use Rattle.request.proofs.blocks.Statement.{statement}
 use Rattle.request.proofs.blocks.Tie as tie
 
 abbrev Inv-loop : tie.InvT-loop
-Inv-loop s at q high copies₀ p₀ i₀ copies p i = Filling q high s at copies p i
+Inv-loop s at heading high copies₀ q p₀ i₀ copies p i = Filling (heading .blocks) high s at copies p i
 
 abbrev μ-loop : tie.MeasureT-loop
-μ-loop s at q high copies₀ p₀ i₀ copies p i = q - i
+μ-loop s at heading high copies₀ q p₀ i₀ copies p i = heading .blocks - i
 
 loop-holds : tie.Need-loop-holds Inv-loop μ-loop
 loop-holds c = filling-start _ _ _ _
 
 one-block-requires : tie.Need-one-block-requires Inv-loop μ-loop
-one-block-requires c κs = c .before .before .before .pre .1
+one-block-requires c κs = c .before .before .before .before .pre .1
 
 mul-copies : tie.Need-mul-copies Inv-loop μ-loop
 mul-copies c =
     let at-loop-test = c .before .before .before .before in
-    let at-start = at-loop-test .before .before .before in
-    omega
-    (arith, at-loop-test .loop-test .taken, at-start .pre .0)
+    let at-start = at-loop-test .before .before .before .before in
+    omega (arith, at-loop-test .loop-test .taken, at-start .pre .0)
 
 array-write-copies : tie.Need-array-write-copies Inv-loop μ-loop
 array-write-copies c =
     let at-loop-test = c .before .before .before .before in
-    let at-start = at-loop-test .before .before .before in
+    let at-start = at-loop-test .before .before .before .before in
     omega (arith, at-loop-test .loop-test .taken, at-start .pre .0)
 
 returns : tie.Need-returns Inv-loop μ-loop
@@ -47,19 +46,15 @@ returns c =
 add-i : tie.Need-add-i Inv-loop μ-loop
 add-i c =
     let at-loop-test = c .before .before .before .before in
-    let at-start = at-loop-test .before .before .before in
-    omega (
-      arith,
-      at-loop-test .loop-test .taken,
-      at-start .pre .0,
-    )
+    let at-start = at-loop-test .before .before .before .before in
+    omega (arith, at-loop-test .loop-test .taken, at-start .pre .0)
 
 loop-again : tie.Need-loop-again Inv-loop μ-loop
 loop-again c =
     let at-one-block = c .before .before .before in
     let at-loop-test = at-one-block .before in
     let at-loop = at-loop-test .before in
-    let at-start = at-loop .before .before in
+    let at-start = at-loop .before .before .before in
     filling-step _ _ _ _ _ _ _ (at-loop .loop .inv)
     (at-loop-test .loop-test .taken) (at-start .pre .0)
     (copies-got (at-one-block .one-block .ensures) (c .before .m .given .1))
@@ -68,8 +63,8 @@ returns-2 : tie.Need-returns-2 Inv-loop μ-loop
 returns-2 c =
     let at-loop-test = c .before .before .before in
     let at-loop = at-loop-test .before in
-    let at-start = at-loop .before .before in
-    filling-done _ _ _ _ _ _ _ (at-loop .loop .inv) _ refl refl
+    let at-start = at-loop .before .before .before in
+    filling-done _ _ _ _ _ _ _ (at-loop .loop .inv) _ refl refl refl refl
     (at-loop-test .loop-test .left) (at-start .pre .0)
     (told-got (c .before .before .end .ensures) (c .enum-told .given .1))
 
@@ -89,6 +84,7 @@ blocks-spec =
     (tie.spec
     Inv-loop
     μ-loop
+    (λ c. search needs)
     loop-holds
     one-block-requires
     (λ c. search needs)

@@ -1,58 +1,61 @@
--- `write` meets its contract, by the laws of the draft, in field order.
+-- `write` meets its contract: what was judged of the heading, then what was told of the blocks' bytes.
 use borrow.Author.Needs.{needs}
-use Rattle.request.proofs.Writing.{draft-tenancy, draft-unset, draft-large, draft-long, draft-of, sent-as, sized-got, sized-refused}
-use Rattle.field.proofs.Sends.{sent-refused}
 use mathlib.Core.Path.{_∙_}
+use lib.ListN.{length}
+use Rattle.field.proofs.Sends.{sent-refused}
+use Rattle.request.specs.Draft.{requestDraft}
+use Rattle.request.proofs.Aged.{kind-small}
+use Rattle.request.proofs.Writing.{HeadingFits, headed-pass, judged-got, judged-refused, sent-as, sized-got, sized-refused}
 use Rattle.request.proofs.write.Statement.{statement}
 use Rattle.request.proofs.write.Tie as tie
 
-returns : tie.Need-returns
-returns c = sent-as (draft-tenancy _ _ _ _ (c .if1 .taken)) (sent-refused _ _)
+-- where the heading was accepted
+head : (c : tie.After-enum-told) → let a = c .before .before .before .before .before .args in
+    HeadingFits (a .kind) (a .tenancy) (a .age) (a .disks) (length (a .copies .now))
+head c = judged-got _ _ _ _ _ (c .before .before .judge .ensures) (c .enum-told .given .1)
 
-returns-2 : tie.Need-returns-2
-returns-2 c = sent-as (draft-unset _ _ _ _ (c .before .if1 .left) (c .if2 .taken)) (sent-refused _ _)
-
-returns-3 : tie.Need-returns-3
-returns-3 c = sent-as (draft-large _ _ _ _ (c .before .before .if1 .left) (c .before .if2 .left) (c .if3 .taken))
-    (sent-refused _ _)
-
-returns-4 : tie.Need-returns-4
-returns-4 c = sent-as
-    (draft-long _ _ _ _ (c .before .before .before .if1 .left) (c .before .before .if2 .left) (c .before .if3 .left) (c .if4 .taken))
-    (sent-refused _ _)
+size-requires : tie.Need-size-requires
+size-requires c κs = let h = head c in (h .within, h .count)
 
 send-requires : tie.Need-send-requires
-send-requires c κs = sized-got _ _ (c .before .before .before .before .size .ensures) (c .before .before .n .given .1) .0
-
-returns-5 : tie.Need-returns-5
-returns-5 c =
-    let at-n = c .before .before .before .before .before in
+send-requires c κs =
+    let at-n = c .before .before in
     let at-size = at-n .before .before in
-    let tests = at-size .before in
-    let draft = draft-of _ _ _ _ (tests .before .before .before .if1 .left) (tests .before .before .if2 .left)
-    (tests .before .if3 .left) (tests .if4 .left) in
-    sent-as (draft ∙ sized-got _ _ (at-size .size .ensures)
-    (at-n .n .given .1) .1 _) (c .before .before .send .ensures)
+    (kind-small _ (head (at-size .before) .kind), sized-got _ _ (at-size .size .ensures) (at-n .n .given .1) .0)
 
-returns-6 : tie.Need-returns-6
-returns-6 c = let tests = c .before .before .before .before in
-    let draft = draft-of _ _ _ _ (tests .before .before .before .if1 .left) (tests .before .before .if2 .left)
-    (tests .before .if3 .left) (tests .if4 .left) in
-    sent-as (draft ∙ sized-refused _ _ (c .before .before .before .size .ensures) (c .before .e .given .1) _) (sent-refused _ _)
+returns : tie.Need-returns
+unfolding requestDraft
+returns c =
+    let at-send = c .before .before in
+    let at-n = at-send .before .before .before in
+    let at-size = at-n .before .before in
+    sent-as (headed-pass _ _ _ _ _ _ (head (at-size .before)) ∙ sized-got _ _ (at-size .size .ensures) (at-n .n .given .1) .1 _)
+    (at-send .send .ensures)
+
+returns-2 : tie.Need-returns-2
+unfolding requestDraft
+returns-2 c =
+    let at-size = c .before .before .before in
+    sent-as (headed-pass _ _ _ _ _ _ (head (at-size .before)) ∙ sized-refused _ _ (at-size .size .ensures) (c .before .e .given .1) _)
+    (sent-refused _ _)
+
+returns-3 : tie.Need-returns-3
+unfolding requestDraft
+returns-3 c =
+    sent-as (judged-refused _ _ _ _ _ (c .before .before .before .judge .ensures) (c .before .e2 .given .1) _) (sent-refused _ _)
 
 pub write-spec : {M : Type 1} → statement M
 write-spec =
     tie.close
     (tie.spec
-    returns
-    returns-2
-    (λ c. search needs)
-    returns-3
-    returns-4
     (λ c κs. search needs)
+    (λ c. search needs)
+    size-requires
     (λ c. search needs)
     send-requires
     (λ c. search needs)
     (λ c. search needs)
-    returns-5
-    returns-6)
+    (λ c. search needs)
+    returns
+    returns-2
+    returns-3)

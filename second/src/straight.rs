@@ -1,0 +1,141 @@
+//! What a unit has to answer to a small request, from the documents' sentences and by nothing else of this program: tests.
+
+use crate::inputs::fields;
+use crate::inputs::whole::{self, Case};
+use crate::model::disks_of;
+use crate::random::Random;
+use crate::sheets::read_plan;
+use crate::unit::Unit;
+
+/// A small table and request.
+struct Small {
+    case: Case,
+    age: Option<u32>,
+}
+
+impl Small {
+    fn any(random: &mut Random) -> Self {
+        let mut case = whole::small(random);
+        case.copies.truncate(5);
+        let age = whole::age(random, &case.disks);
+        Small { case, age }
+    }
+
+    /// When a disk starts: its delay and what is left of its load.
+    fn start(&self, disk: usize) -> i64 {
+        let row = &self.case.disks[disk];
+        let left = i64::from(row.load) - i64::from(self.age.unwrap_or(0));
+        i64::from(row.delay) + left.max(0)
+    }
+
+    fn capacity(&self, disk: usize, time: i64) -> i64 {
+        let cost = i64::from(self.case.disks[disk].cost);
+        if time < self.start(disk) {
+            0
+        } else {
+            (time - self.start(disk)) / cost
+        }
+    }
+
+    fn copies(&self, block: usize) -> Vec<usize> {
+        disks_of(self.case.copies[block])
+    }
+
+    /// All schedules in dictionary order, each with its latest end.
+    fn schedules(&self) -> Vec<(Vec<usize>, i64)> {
+        let mut all: Vec<Vec<usize>> = vec![vec![]];
+        for block in 0..self.case.copies.len() {
+            let longer = all.iter().flat_map(|schedule| {
+                let on = |disk: &usize| [&schedule[..], &[*disk]].concat();
+                self.copies(block).iter().map(on).collect::<Vec<_>>()
+            });
+            all = longer.collect();
+        }
+        let timed = |schedule: Vec<usize>| {
+            let end = |&disk: &usize| {
+                let count = schedule.iter().filter(|&&other| other == disk).count();
+                self.start(disk) + count as i64 * i64::from(self.case.disks[disk].cost)
+            };
+            let time = schedule.iter().map(end).max().unwrap_or(0);
+            (schedule, time)
+        };
+        all.into_iter().map(timed).collect()
+    }
+
+    /// Of the sets with the greatest shortfall at a time, the one contained in all others.
+    fn short_set(&self, time: i64) -> Vec<usize> {
+        let blocks = self.case.copies.len();
+        let members = |set: usize| (0..blocks).filter(move |block| set >> block & 1 == 1);
+        let shortfall = |set: usize| {
+            let mut held: Vec<usize> = members(set).flat_map(|block| self.copies(block)).collect();
+            held.sort();
+            held.dedup();
+            let rooms = held.iter().map(|&disk| self.capacity(disk, time));
+            members(set).count() as i64 - rooms.sum::<i64>()
+        };
+        let sets = 0..1usize << blocks;
+        let greatest = sets.clone().map(shortfall).max().unwrap();
+        let worst = sets.filter(|&set| shortfall(set) == greatest);
+        let common = worst.clone().fold(usize::MAX, |all, set| all & set);
+        assert!(worst.clone().any(|set| set == common));
+        members(common).collect()
+    }
+
+    /// The answer of the unit is the one that the sentences give; then the time.
+    fn check(&self, unit: &Unit, sheet: &[u8]) -> i64 {
+        let all = self.schedules();
+        let time = all.iter().map(|(_, time)| *time).min().unwrap();
+        let (first, _) = all.iter().find(|(_, other)| *other == time).unwrap();
+        let short = if first.is_empty() {
+            vec![]
+        } else {
+            self.short_set(time - 1)
+        };
+        let plan = read_plan(&unit.request(sheet, 99).unwrap(), 7, 300).unwrap();
+        assert_eq!(i64::from(plan.time), time);
+        assert!(plan
+            .disks
+            .iter()
+            .map(|&disk| usize::from(disk))
+            .eq(first.iter().copied()));
+        assert!(plan.short.iter().map(|&block| usize::from(block)).eq(short));
+        for block in 0..first.len() {
+            for disk in 0..self.case.disks.len() {
+                let there = all.iter().filter(|(schedule, _)| schedule[block] == disk);
+                let forced = there.clone().map(|(_, time)| *time).min();
+                let mut least = there.filter(|(_, other)| *other == time);
+                let expected = match forced {
+                    None => (1, 0),
+                    Some(forced) if forced > time => (2, forced as u32),
+                    _ if first[block] == disk => (5, 0),
+                    _ if least.any(|(other, _)| other[..block] == first[..block]) => (4, 0),
+                    _ => (3, 0),
+                };
+                let reason = unit.reason(sheet, block as u32, disk as u32).unwrap();
+                assert_eq!(reason.numbers(), expected);
+            }
+        }
+        time
+    }
+}
+
+#[test]
+fn ages() {
+    let mut random = Random::new(31);
+    let mut sooner = 0;
+    for _ in 0..3_000 {
+        let small = Small::any(&mut random);
+        let mut unit = Unit::new(7);
+        unit.rent(300).unwrap();
+        let settings = fields::bytes(&fields::settings(7, 300, &small.case.disks));
+        unit.settings(&settings).unwrap();
+        let sheet = |age| fields::bytes(&fields::request(7, 300, age, &small.case.copies));
+        let time = small.check(&unit, &sheet(small.age));
+        let plain = Small { age: None, ..small };
+        let sheet = fields::bytes(&fields::request(7, 300, None, &plain.case.copies));
+        let without = plain.check(&unit, &sheet);
+        assert!(time <= without);
+        sooner += usize::from(time < without);
+    }
+    assert!(sooner > 500, "{sooner}");
+}
