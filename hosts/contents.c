@@ -149,6 +149,7 @@ static const struct kind {
     [KIND_REQUEST] = { REQUEST, "read request", "a read request" },
     [KIND_PLAN] = { PLAN, "plan", "a plan" },
     [KIND_AGED] = { REQUEST, "read request with an age", "a read request with an age" },
+    [KIND_OVERLAP] = { SETTINGS, "settings, each disk starts at the larger of delay and load", "a settings sheet" },
 };
 
 static enum sort sort_of(uint32_t kind)
@@ -164,7 +165,7 @@ static bool read_head(struct reader *r)
     if (!take(r))
         return false;
     if (sort_of(r->value) == NO_SORT)
-        return REFUSE(r, RP_WRONG_KIND, "it is %s; settings are 1, a read request 2 or 4, a plan 3",
+        return REFUSE(r, RP_WRONG_KIND, "it is %s; settings are 1 or 5, a read request 2 or 4, a plan 3",
             grouped(r->value).text);
     if (r->expected->sort != NO_SORT && sort_of(r->value) != r->expected->sort)
         return REFUSE(r, RP_WRONG_KIND, "it is %u, %s", (unsigned)r->value, KINDS[r->value].one);
@@ -200,6 +201,7 @@ static bool read_head(struct reader *r)
 static bool read_settings(struct reader *r)
 {
     struct contents *c = r->contents;
+    c->start = c->kind == KIND_OVERLAP ? LARGER : SUM;
     next_is(r, "the number of disks N");
     if (!take_within(r, RP_OUT_OF_RANGE, 1, RP_MOST_DISKS))
         return false;
@@ -439,7 +441,8 @@ bool contents_table(const struct bytes *sheet, const char *name, struct expected
         return false;
     }
     bytes_add(&rows, contents.rows, contents.count * sizeof contents.rows[0]);
-    *table = (struct table){ name, (struct row *)(void *)rows.at, contents.count, false, 0 };
+    *table = (struct table){ .name = name, .rows = (struct row *)(void *)rows.at, .count = contents.count,
+        .kind = contents.kind, .start = contents.start };
     return true;
 }
 
@@ -483,8 +486,8 @@ static bool library_writes_settings(const struct bytes *sheet, const struct cont
         rp_put32(lists[1], d, c->rows[d].load);
         rp_put32(lists[2], d, c->rows[d].delay);
     }
-    return same(rp_write_settings(c->unit, c->tenancy, lists[0], len, lists[1], len, lists[2], len, written,
-        sizeof written), written, sheet);
+    return same((c->start == LARGER ? rp_write_settings_overlap : rp_write_settings)(c->unit, c->tenancy, lists[0], len,
+        lists[1], len, lists[2], len, written, sizeof written), written, sheet);
 }
 
 static bool library_writes_request(const struct bytes *sheet, const struct contents *c, uint32_t disks)

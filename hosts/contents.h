@@ -17,7 +17,7 @@
 
 /* What a sheet may be, and the kinds that it may have, by the number that it begins with. */
 enum sort { NO_SORT, SETTINGS, REQUEST, PLAN };
-enum { KIND_SETTINGS = 1, KIND_REQUEST = RP_REQUEST, KIND_PLAN = 3, KIND_AGED = RP_AGED_REQUEST };
+enum { KIND_SETTINGS = 1, KIND_REQUEST = RP_REQUEST, KIND_PLAN = 3, KIND_AGED = RP_AGED_REQUEST, KIND_OVERLAP = 5 };
 
 /* What is expected of a sheet; null for anything. */
 struct expected {
@@ -35,6 +35,7 @@ struct contents {
     uint32_t unit;
     uint32_t tenancy;
     uint32_t age;           /* of a request; 0 where it has none */
+    enum start start;       /* of settings */
     uint32_t count;         /* of disks or blocks */
     uint32_t time;          /* a plan's R */
     uint32_t short_size;

@@ -12,11 +12,11 @@
 #include "table.h"
 
 static const char USAGE[] =
-    "usage: desk settings UNIT TENANCY [TABLE] [-o FILE]\n"
+    "usage: desk settings UNIT TENANCY [TABLE] [--start sum|larger] [-o FILE]\n"
     "       desk show [SHEET] [--unit UNIT] [--tenancy TENANCY] [--disks N] [--calls FILE]\n"
     "       desk --help | --version\n";
 
-static const char HELP[] =
+static const char *const HELP[] = {
     "\n"
     "settings writes the settings sheet of UNIT for TENANCY to FILE, or to standard output.\n"
     "\n"
@@ -31,6 +31,11 @@ static const char HELP[] =
     "    0,4,0,1\n"
     "    1,3,2,0      # a comment\n"
     "\n"
+    "--start says for the whole unit how a disk's start comes from its delay and its load: sum, after\n"
+    "each other, which is usual; or larger, where newer controllers hand the request to the disk at\n"
+    "once, so that it works off its load meanwhile. A settings sheet has its own, which stays unless\n"
+    "--start gives another.\n"
+    "\n",
     "show shows any sheet field by field with the places of its bytes, and where it is refused.\n"
     "SHEET is a file, by default standard input: the sheet itself, or its bytes in hex or as xxd\n"
     "or hexdump show them, or what the shelf printed. Of its lines every call that it refused is\n"
@@ -42,20 +47,25 @@ static const char HELP[] =
     "FILE is written whole or not at all, not at all where the sheet is refused, and never over an\n"
     "input or a read-only file.\n"
     "Exit status: 0 done; 1 refused, or a file can not be used; 2 called wrongly; 3 sheets are\n"
-    "shown, and the shelf refused another call or stopped, or its last line is cut.\n";
+    "shown, and the shelf refused another call or stopped, or its last line is cut.\n",
+    NULL
+};
 
 static int settings(char **words)
 {
-    const char *places[3] = { NULL, NULL, NULL }, *out = NULL;
-    const struct option options[] = { { "-o", &out, NULL }, { NULL, NULL, NULL } };
+    const char *places[3] = { NULL, NULL, NULL }, *start_word = NULL, *out = NULL;
+    const struct option options[] = { { "--start", &start_word, NULL }, { "-o", &out, NULL }, { NULL, NULL, NULL } };
     uint8_t sheet[RP_LONGEST_SETTINGS];
     uint32_t unit, tenancy, len;
+    enum start start = SUM;
     struct table table;
     if (!options_read(words, places, 2, 3, options) || !word_number("UNIT", places[0], &unit)
-        || !word_number("TENANCY", places[1], &tenancy))
+        || !word_number("TENANCY", places[1], &tenancy) || (start_word != NULL && !start_named(start_word, &start)))
         return program_usage();
     if (!table_read(places[2], &ANYTHING, &table))
         return STATUS_BAD;
+    if (start_word != NULL)
+        table.start = start;
     len = table_sheet(&table, unit, tenancy, sheet);
     table_free(&table);
     return len > 0 && output_bytes(out, sheet, len) ? STATUS_DONE : STATUS_BAD;

@@ -28,9 +28,8 @@ static void add_disk(const struct view *view, uint32_t disk, struct bytes *text)
     next_item(text);
     bytes_addf(text, "{\"disk\":%u", (unsigned)disk);
     if (view->table != NULL) {
-        const struct row *row = &view->table->rows[disk];
-        add_named(text, "start", start_of(row));
-        add_named(text, "end", end_of(row, plan->counts[disk]));
+        add_named(text, "start", start_of(view->table, disk));
+        add_named(text, "end", end_of(view->table, disk, plan->counts[disk]));
     }
     bytes_addf(text, ",\"blocks\":[");
     for (uint32_t b = next_on(plan, disk, 0); b < plan->blocks; b = next_on(plan, disk, b + 1))
@@ -65,6 +64,8 @@ void plan_json(const struct view *view, struct bytes *text)
     add_named(text, "time", plan->time);
     if (view->table != NULL && view->table->aged)
         add_named(text, "age", view->table->age);
+    if (view->table != NULL && view->table->start != SUM)
+        bytes_addf(text, ",\"start_rule\":\"%s\"", start_name(view->table->start));
     bytes_addf(text, ",\"disk_of_block\":[");
     for (uint32_t b = 0; b < plan->blocks; b++)
         add_number(text, plan->disk[b]);

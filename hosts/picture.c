@@ -25,6 +25,39 @@ static void draw_wait(struct bytes *svg, double x, double y, double width)
         width, BAR);
 }
 
+/* Two bars of half the height, from the same point on: above the delay, below the load, hatched; with their titles. */
+static void draw_overlap(struct bytes *svg, double x, double y, double delay, double load, const char *delay_title,
+    const char *load_title)
+{
+    const double half = BAR / 2.0;
+    if (delay > 0) {
+        draw_box(svg, "wait", x, y, delay, half);
+        bytes_addf(svg, ">%s</rect>\n", delay_title);
+    }
+    if (load > 0) {
+        draw_box(svg, "wait", x, y + half, load, half);
+        bytes_addf(svg, "/>\n<rect fill=\"url(#wait)\" x=\"%.2f\" y=\"%.2f\" width=\"%.2f\" height=\"%.2f\">%s"
+            "</rect>\n", x, y + half, load, half, load_title);
+    }
+}
+
+/* What a disk waits for: one bar, or side by side from 0 what overlaps. */
+static void draw_waits(const struct view *view, struct bytes *svg, uint32_t disk, double y)
+{
+    const struct row *row = &view->table->rows[disk];
+    const double delay = place(view->plan, row->delay) - LEFT, load = place(view->plan, row->load) - LEFT;
+    struct bytes delay_title = bytes_new(), load_title = bytes_new();
+    bytes_addf(&delay_title, "<title>delay, 0 to %s microseconds</title>", grouped(row->delay).text);
+    bytes_addf(&load_title, "<title>load%s, 0 to %s microseconds</title>", view->table->aged ? " left" : "",
+        grouped(row->load).text);
+    if (view->table->start == LARGER)
+        draw_overlap(svg, LEFT, y, delay, load, bytes_text(&delay_title), bytes_text(&load_title));
+    else if (start_of(view->table, disk) > 0)
+        draw_wait(svg, LEFT, y, place(view->plan, start_of(view->table, disk)) - LEFT);
+    bytes_free(&delay_title);
+    bytes_free(&load_title);
+}
+
 /* A block's box; its number where there is room, and always in the title that a pointer brings up. */
 static void draw_block(const struct plan *plan, struct bytes *svg, uint32_t block, double y, uint64_t from,
     uint64_t to)
@@ -56,11 +89,12 @@ static void draw_pack(const struct plan *plan, struct bytes *svg, double y, bool
 }
 
 /* The blocks of one disk that are in the short set, or the others, neighbours in time together. */
-static uint32_t draw_packs(const struct plan *plan, const struct row *row, struct bytes *svg, uint32_t disk, double y,
-    bool marked)
+static uint32_t draw_packs(const struct view *view, struct bytes *svg, uint32_t disk, double y, bool marked)
 {
-    uint64_t at = start_of(row), from = at;
-    double least = place(plan, end_of(row, plan->counts[disk])) - place(plan, at) < MARK ? MARK : HAIR;
+    const struct plan *plan = view->plan;
+    const struct row *row = &view->table->rows[disk];
+    uint64_t at = start_of(view->table, disk), from = at;
+    double least = place(plan, end_of(view->table, disk, plan->counts[disk])) - place(plan, at) < MARK ? MARK : HAIR;
     uint32_t count = 0, all = 0;
     for (uint32_t b = next_on(plan, disk, 0); b < plan->blocks; b = next_on(plan, disk, b + 1)) {
         if (plan->is_short[b] != marked) {
@@ -83,9 +117,9 @@ static uint32_t draw_packs(const struct plan *plan, const struct row *row, struc
 static void draw_count(const struct view *view, struct bytes *svg, uint32_t disk, double y, uint32_t marked)
 {
     const struct plan *plan = view->plan;
-    const struct row *row = &view->table->rows[disk];
     struct bytes label = bytes_new();
-    double left = place(plan, start_of(row)), right = place(plan, end_of(row, plan->counts[disk])), width;
+    double left = place(plan, start_of(view->table, disk)), width;
+    double right = place(plan, end_of(view->table, disk, plan->counts[disk]));
     bytes_addf(&label, "%u block%s", (unsigned)plan->counts[disk], plan->counts[disk] == 1 ? "" : "s");
     if (marked > 0)
         bytes_addf(&label, ", %u short", (unsigned)marked);
@@ -104,9 +138,8 @@ static void draw_count(const struct view *view, struct bytes *svg, uint32_t disk
 /* The short set's boxes come last, so that none of them is covered. */
 static void draw_crowd(const struct view *view, struct bytes *svg, uint32_t disk, double y)
 {
-    const struct row *row = &view->table->rows[disk];
-    draw_packs(view->plan, row, svg, disk, y, false);
-    draw_count(view, svg, disk, y, draw_packs(view->plan, row, svg, disk, y, true));
+    draw_packs(view, svg, disk, y, false);
+    draw_count(view, svg, disk, y, draw_packs(view, svg, disk, y, true));
 }
 
 static void draw_disk(const struct view *view, struct bytes *svg, uint32_t disk)
@@ -114,15 +147,14 @@ static void draw_disk(const struct view *view, struct bytes *svg, uint32_t disk)
     const struct plan *plan = view->plan;
     const struct row *row = &view->table->rows[disk];
     double y = row_top(disk) + (ROW - BAR) / 2.0;
-    uint64_t at = start_of(row), end = end_of(row, plan->counts[disk]);
+    uint64_t at = start_of(view->table, disk), end = end_of(view->table, disk, plan->counts[disk]);
     draw_text(svg, EDGE, base_of(disk), "font-weight=\"600\"", plain(disk).text);
     draw_text(svg, LEFT - 14, base_of(disk), "text-anchor=\"end\"", grouped(row->cost).text);
     if (plan->counts[disk] == 0) {
         draw_text(svg, RIGHT + 12, base_of(disk), "class=\"faint\"", "idle");
         return;
     }
-    if (at > 0)
-        draw_wait(svg, LEFT, y, place(plan, at) - LEFT);
+    draw_waits(view, svg, disk, y);
     if (place(plan, row->cost) - LEFT < CROWDED)
         draw_crowd(view, svg, disk, y);
     else
@@ -153,8 +185,12 @@ static void draw_legend(const struct view *view, struct bytes *svg)
 {
     const struct plan *plan = view->plan;
     struct bytes label = bytes_new();
-    draw_wait(svg, EDGE, 50, 34);
-    draw_text(svg, EDGE + 42, 65, "", view->table->aged ? "delay, load left" : "delay and load");
+    if (view->table->start == LARGER)
+        draw_overlap(svg, EDGE, 50, 34, 22, "", "");
+    else
+        draw_wait(svg, EDGE, 50, 34);
+    draw_text(svg, EDGE + 42, 65, "", view->table->aged ? "delay, load left"
+        : view->table->start == LARGER ? "delay over load" : "delay and load");
     draw_box(svg, "block", EDGE + 152, 50, 34, BAR);
     bytes_addf(svg, "/>\n");
     draw_text(svg, EDGE + 194, 65, "", "block");
@@ -193,15 +229,17 @@ static void add_short(const struct view *view, struct bytes *words)
     bytes_addf(words, " of the %u.", (unsigned)plan->short_size);
 }
 
-/* What stands under the picture: that, and the age of the loads. */
+/* What stands under the picture: that, and how the starts come about. */
 static void add_words(const struct view *view, struct bytes *words)
 {
-    struct bytes age = bytes_new();
+    struct bytes starts = bytes_new();
     add_short(view, words);
-    add_age(&age, view->table);
-    if (age.len > 0)
-        bytes_addf(words, "%sThe %s.", words->len > 0 ? "\n" : "", bytes_text(&age));
-    bytes_free(&age);
+    add_starts(&starts, view->table);
+    for (char *one = bytes_text(&starts), *end; *one != '\0'; one = end + 1) {
+        end = strchr(one, '\n');
+        bytes_addf(words, "%s%c%.*s.", words->len > 0 ? "\n" : "", *one - 'a' + 'A', (int)(end - one - 1), one + 1);
+    }
+    bytes_free(&starts);
 }
 
 static void draw_title(const struct plan *plan, struct bytes *svg, double height)

@@ -49,14 +49,28 @@ bool plan_read(const char *name, const struct found *found, uint32_t unit, uint3
     return true;
 }
 
-uint64_t start_of(const struct row *row)
+uint64_t start_of(const struct table *table, uint32_t disk)
 {
+    const struct row *row = &table->rows[disk];
+    if (table->start == LARGER)
+        return row->delay > row->load ? row->delay : row->load;
     return (uint64_t)row->delay + row->load;
 }
 
-uint64_t end_of(const struct row *row, uint32_t blocks)
+uint64_t end_of(const struct table *table, uint32_t disk, uint32_t blocks)
 {
-    return blocks == 0 ? 0 : start_of(row) + (uint64_t)blocks * row->cost;
+    return blocks == 0 ? 0 : start_of(table, disk) + (uint64_t)blocks * table->rows[disk].cost;
+}
+
+/* When the last disk has read its blocks; all are the table's. */
+static uint64_t latest_end(const struct plan *plan, const struct table *table)
+{
+    uint64_t latest = 0;
+    for (uint32_t d = 0; d < table->count; d++) {
+        uint64_t end = end_of(table, d, plan->counts[d]);
+        latest = end > latest ? end : latest;
+    }
+    return latest;
 }
 
 static const char OTHER_TABLE[] = "it is another unit's table, or an older one, or the plan is damaged";
@@ -95,27 +109,36 @@ static bool none_said(struct faults *faults, struct bytes *fault)
     return good;
 }
 
+/* Adds when a plan ends by a table that is not its own. */
+static void add_end(struct bytes *text, const struct plan *plan, const struct table *table)
+{
+    struct table other = *table;
+    other.start = table->start == SUM ? LARGER : SUM;
+    bytes_addf(text, " it ends at %s", grouped(latest_end(plan, table)).text);
+    if (table->start == LARGER)
+        bytes_addf(text, ", with each start the larger of delay and load");
+    if (table->aged)
+        bytes_addf(text, ", with the loads at an age of %s", grouped(table->age).text);
+    if (table->kind == 0 && latest_end(plan, &other) == plan->time)
+        bytes_addf(text, " (with --start %s it ends there)", start_name(other.start));
+}
+
 bool plan_fits(const struct plan *plan, const struct table *table)
 {
     struct faults faults = faults_new();
     struct bytes fault = bytes_new();
-    uint64_t latest = 0;
-    for (uint32_t d = 0; d < RP_MOST_DISKS && faults.count == 0; d++) {
-        uint64_t end = d < table->count ? end_of(&table->rows[d], plan->counts[d]) : 0;
-        if (d >= table->count && plan->counts[d] > 0) {
-            bytes_addf(&fault, "the plan reads from disk %u, and by ", (unsigned)d);
-            add_held(&fault, plan, "this table", "the settings in ");
-            bytes_addf(&fault, " the last is disk %zu", table->count - 1);
-            add_fault(&faults, plan, table->name, &fault, OTHER_TABLE);
-        }
-        latest = end > latest ? end : latest;
+    for (uint32_t d = (uint32_t)table->count; d < RP_MOST_DISKS && faults.count == 0; d++) {
+        if (plan->counts[d] == 0)
+            continue;
+        bytes_addf(&fault, "the plan reads from disk %u, and by ", (unsigned)d);
+        add_held(&fault, plan, "this table", "the settings in ");
+        bytes_addf(&fault, " the last is disk %zu", table->count - 1);
+        add_fault(&faults, plan, table->name, &fault, OTHER_TABLE);
     }
-    if (faults.count == 0 && latest != plan->time) {
+    if (faults.count == 0 && latest_end(plan, table) != plan->time) {
         bytes_addf(&fault, "the plan's time is %s, and by ", grouped(plan->time).text);
         add_held(&fault, plan, "this table", "the settings in ");
-        bytes_addf(&fault, " it ends at %s", grouped(latest).text);
-        if (table->aged)
-            bytes_addf(&fault, ", with the loads at an age of %s", grouped(table->age).text);
+        add_end(&fault, plan, table);
         add_fault(&faults, plan, table->name, &fault, table->aged ? OTHER_AGE : NO_AGE);
     }
     return none_said(&faults, &fault);
@@ -144,9 +167,10 @@ bool plan_holds(const struct plan *plan, const struct blocks *blocks)
 }
 
 /* How many blocks a disk can have read by a time. */
-static uint64_t room_of(const struct row *row, uint64_t time)
+static uint64_t room_of(const struct table *table, uint32_t disk, uint64_t time)
 {
-    return time < start_of(row) ? 0 : (time - start_of(row)) / row->cost;
+    const uint64_t start = start_of(table, disk);
+    return time < start ? 0 : (time - start) / table->rows[disk].cost;
 }
 
 bool plan_reason(const struct plan *plan, const struct blocks *blocks, const struct table *table,
@@ -159,7 +183,7 @@ bool plan_reason(const struct plan *plan, const struct blocks *blocks, const str
             reason->disks |= blocks->list[b].copies;
     for (uint32_t d = 0; d < table->count; d++) {
         if (reason->disks >> d & 1)
-            reason->room[d] = room_of(&table->rows[d], plan->time - 1);
+            reason->room[d] = room_of(table, d, plan->time - 1);
         reason->sum += reason->room[d];
     }
     if (plan->blocks == 0 || reason->sum < plan->short_size)
@@ -201,10 +225,12 @@ struct digits range(uint32_t first, uint32_t last)
     return word;
 }
 
-void add_age(struct bytes *text, const struct table *table)
+void add_starts(struct bytes *text, const struct table *table)
 {
-    if (table != NULL && table->aged)
-        bytes_addf(text, "loads are what is left of them at an age of %s microsecond%s", grouped(table->age).text,
+    if (table->start == LARGER)
+        bytes_addf(text, "each disk starts at the larger of its delay and its load\n");
+    if (table->aged)
+        bytes_addf(text, "loads are what is left of them at an age of %s microsecond%s\n", grouped(table->age).text,
             table->age == 1 ? "" : "s");
 }
 

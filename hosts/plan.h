@@ -45,11 +45,11 @@ struct view {
 /* Reads a plan sheet of a file, or says why it is refused and where. */
 bool plan_read(const char *name, const struct found *found, uint32_t unit, uint32_t tenancy, struct plan *plan);
 
-/* When a disk can begin its first block: its delay and its load, or what is left of it. */
-uint64_t start_of(const struct row *row);
+/* When a disk can begin its first block: by delay and load, or what is left of it, as the table has it. */
+uint64_t start_of(const struct table *table, uint32_t disk);
 
 /* When a disk has read so many blocks; an idle disk ends at 0, whatever its load. */
-uint64_t end_of(const struct row *row, uint32_t blocks);
+uint64_t end_of(const struct table *table, uint32_t disk, uint32_t blocks);
 
 /* Whether a table is the plan's: it has every disk, and the latest end is R; or says why not. */
 bool plan_fits(const struct plan *plan, const struct table *table);
@@ -73,8 +73,8 @@ uint32_t run_end(const struct plan *plan, uint32_t first);
 /* A run as a word: 5, or 5-9. */
 struct digits range(uint32_t first, uint32_t last);
 
-/* Adds, where the loads are taken at an age, a sentence that says so; without its end. */
-void add_age(struct bytes *text, const struct table *table);
+/* Adds how starts come about, where not by the sum of delay and load as they are: a line for each sentence. */
+void add_starts(struct bytes *text, const struct table *table);
 
 /* Adds the short set as words: " 0-6 16". */
 void add_short_set(struct bytes *text, const struct plan *plan);

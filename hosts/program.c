@@ -32,9 +32,12 @@ static bool asks(int count, char **words, const char *word)
     return false;
 }
 
-static int show(const char *first, const char *second)
+/* Shows a text and what follows it in parts. */
+static int show(const char *first, const char *const *parts)
 {
-    printf("%s%s", first, second);
+    fputs(first, stdout);
+    for (; *parts != NULL; parts++)
+        fputs(*parts, stdout);
     if (fflush(stdout) == 0 && !ferror(stdout))
         return STATUS_DONE;
     say("standard output: %s", strerror(errno));
@@ -43,9 +46,10 @@ static int show(const char *first, const char *second)
 
 static int show_version(const struct program *program)
 {
+    const char *const nothing = NULL;
     char text[128];
     snprintf(text, sizeof text, "%s of Rippleplank %s, library %s\n", program->name, RP_VERSION, rp_version());
-    return show(text, "");
+    return show(text, &nothing);
 }
 
 int program_usage(void)

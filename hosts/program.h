@@ -10,7 +10,7 @@ struct command {
 struct program {
     const char *name;
     const char *usage;
-    const char *help;
+    const char *const *help;            /* in parts, of which the last is null: no compiler need take a longer text */
     const struct command *commands;     /* ends with a null name; null for a program without commands */
     int (*run)(char **words);           /* of a program without commands */
 };

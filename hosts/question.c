@@ -61,9 +61,8 @@ uint32_t question_chosen(const struct question *q, uint32_t block)
 static bool is_an_end(const struct question *q, uint64_t time)
 {
     for (uint32_t d = 0; d < q->table.count; d++) {
-        const struct row *row = &q->table.rows[d];
-        if (time > start_of(row) && (time - start_of(row)) % row->cost == 0
-            && (time - start_of(row)) / row->cost <= q->blocks.count)
+        const uint64_t start = start_of(&q->table, d), cost = q->table.rows[d].cost;
+        if (time > start && (time - start) % cost == 0 && (time - start) / cost <= q->blocks.count)
             return true;
     }
     return false;
@@ -75,16 +74,15 @@ static bool is_an_end(const struct question *q, uint64_t time)
  */
 static const char *against_plan(const struct question *q, const struct pair *p)
 {
-    const struct row *row = &q->table.rows[p->disk];
     const uint32_t chosen = q->plan.disk[p->block];
-    const uint64_t moved = end_of(row, q->plan.counts[p->disk] + 1);
+    const uint64_t moved = end_of(&q->table, p->disk, q->plan.counts[p->disk] + 1);
     if ((p->reason == CHOSEN) != (p->disk == chosen))
         return p->reason == CHOSEN ? "the plan reads the block from another disk" : "the plan reads the block there";
     if (p->reason == LATER && p->time <= q->plan.time)
         return "that is no later than the plan";
     if (p->reason == LATER && p->time > moved)
         return "the plan with this block read there is sooner";
-    if ((p->reason == NOT_KEPT || p->reason == LOWER) && end_of(row, 1) > q->plan.time)
+    if ((p->reason == NOT_KEPT || p->reason == LOWER) && end_of(&q->table, p->disk, 1) > q->plan.time)
         return "the disk has not read one block by the plan's time";
     if (p->reason == NOT_KEPT && moved <= q->plan.time)
         return "the plan with this block read there is as soon";
@@ -103,7 +101,7 @@ static const char *against(const struct question *q, const struct pair *p)
         return NULL;
     if (p->reason == NOT_KEPT && p->block == 0)
         return "no block is before block 0";
-    if (p->reason == LATER && p->time < end_of(&q->table.rows[p->disk], 1))
+    if (p->reason == LATER && p->time < end_of(&q->table, p->disk, 1))
         return "the disk has not read one block by then";
     if (p->reason == LATER && !is_an_end(q, p->time))
         return "no disk ends at that time";

@@ -18,7 +18,7 @@ static const char USAGE[] =
     "usage: stream [-o FILE] UNIT CALL...\n"
     "       stream --help | --version\n";
 
-static const char HELP[] =
+static const char *const HELP[] = {
     "\n"
     "Writes to FILE, or to standard output, what the shelf program reads: the number of the unit\n"
     "and the calls, in this order. A CALL is one of\n"
@@ -33,7 +33,9 @@ static const char HELP[] =
     "about each block with a copy on the disk; for both, about every copy of the request. Send the\n"
     "request as well, and tenant why has the plan's time beside the answers.\n"
     "\n"
-    "Exit status: 0 written; 1 a file can not be used; 2 called wrongly.\n";
+    "Exit status: 0 written; 1 a file can not be used; 2 called wrongly.\n",
+    NULL
+};
 
 /* Reads the sheet of a file. */
 static bool read_sheet(const char *path, struct bytes *sheet)

@@ -259,7 +259,8 @@ static bool read_text(const struct bytes *text, const char *name, struct table *
         bytes_free(&r.rows);
     } else {
         tell_passed_over(&r);
-        *table = (struct table){ name, (struct row *)(void *)r.rows.at, r.rows.len / sizeof(struct row), false, 0 };
+        *table = (struct table){ .name = name, .rows = (struct row *)(void *)r.rows.at,
+            .count = r.rows.len / sizeof(struct row), .start = SUM };
     }
     faults_free(&r.faults);
     return !r.unreadable;
@@ -285,6 +286,23 @@ void table_free(struct table *table)
     free(table->rows);
     table->rows = NULL;
     table->count = 0;
+}
+
+const char *start_name(enum start start)
+{
+    return start == LARGER ? "larger" : "sum";
+}
+
+bool start_named(const char *word, enum start *start)
+{
+    for (enum start one = SUM; one <= LARGER; one++) {
+        if (strcmp(word, start_name(one)) == 0) {
+            *start = one;
+            return true;
+        }
+    }
+    say("--start has to be sum or larger, not \"%s\"", shown(span_of(word)).text);
+    return false;
 }
 
 void table_age(struct table *table, uint32_t age)
@@ -329,8 +347,8 @@ uint32_t table_sheet(const struct table *table, uint32_t unit, uint32_t tenancy,
         rp_put32(loads, i, table->rows[i].load);
         rp_put32(delays, i, table->rows[i].delay);
     }
-    answer = rp_write_settings(unit, tenancy, costs, len, loads, len, delays, len, sheet,
-        RP_LONGEST_SETTINGS);
+    answer = (table->start == LARGER ? rp_write_settings_overlap : rp_write_settings)(unit, tenancy, costs, len, loads,
+        len, delays, len, sheet, RP_LONGEST_SETTINGS);
     bytes_free(&lists);
     if (rp_refusal(answer) != RP_ACCEPTED) {
         say_fault(table, tenancy, answer);

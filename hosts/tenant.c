@@ -17,14 +17,15 @@
 
 static const char USAGE[] =
     "usage: tenant request UNIT TENANCY DISKS [LIST] [--age MICROSECONDS] [-o FILE]\n"
-    "       tenant plan UNIT TENANCY [SHEET] [--nth N] [--disks TABLE [--age MICROSECONDS] [--svg FILE]]\n"
-    "                   [--request LIST] [--calls FILE] [--by-block | --json | --line | --time]\n"
+    "       tenant plan UNIT TENANCY [SHEET] [--nth N] [--disks TABLE [--start sum|larger]\n"
+    "                   [--age MICROSECONDS] [--svg FILE]] [--request LIST] [--calls FILE]\n"
+    "                   [--by-block | --json | --line | --time]\n"
     "       tenant why UNIT TENANCY [ANSWERS] --calls FILE [--nth N] [--block BLOCK [--svg FILE]]\n"
     "                   [--disk DISK] [--json]\n"
     "       tenant show [SHEET] [--unit UNIT] [--tenancy TENANCY] [--disks N] [--calls FILE]\n"
     "       tenant --help | --version\n";
 
-static const char HELP[] =
+static const char *const HELP[] = {
     "\n"
     "request writes a read request of TENANCY to UNIT, whose table has DISKS disks, to FILE, or to\n"
     "standard output. With --age MICROSECONDS, the time since the settings were measured, each load\n"
@@ -41,7 +42,7 @@ static const char HELP[] =
     "\n"
     "    0: 0 1\n"
     "    1: 0 1       # the same two disks\n"
-    "\n"
+    "\n",
     "plan reads a plan sheet of UNIT and TENANCY and shows its time R, the blocks of each disk and\n"
     "the short set: the blocks that can not all be read one microsecond sooner.\n"
     "\n"
@@ -52,6 +53,9 @@ static const char HELP[] =
     "--nth N         the Nth plan of UNIT and TENANCY, where there are several\n"
     "--disks TABLE   the table of disks that the settings sheet was made from (see desk --help), or\n"
     "                that sheet: shows when each disk starts and ends, and the timeline to R\n"
+    "--start larger  each disk of the table starts at the larger of its delay and its load, which are\n"
+    "                drawn side by side; without it, or with sum, after each other; where TABLE is the\n"
+    "                settings sheet or --calls is given, they have it\n"
     "--age MICROSECONDS  the age that the request was written with: the loads are what is left of them\n"
     "                then; where --request is a read request or --calls is given, they have it\n"
     "--svg FILE      writes that timeline as a picture, with the short set's blocks marked\n"
@@ -64,7 +68,7 @@ static const char HELP[] =
     "--json          one line of JSON\n"
     "--line          the line that the bench program prints\n"
     "--time          R alone\n"
-    "\n"
+    "\n",
     "why tells why a plan reads a block from a disk, or why not, in the words of what the shelf answered.\n"
     "\n"
     "ANSWERS is a file, by default standard input: what the shelf printed, with a line for each call.\n"
@@ -76,7 +80,7 @@ static const char HELP[] =
     "--disk DISK     a table of the blocks that have a copy on this disk; with --block, that one answer\n"
     "--svg FILE      draws the disks of the block, each to the time when the last block would be in\n"
     "--json          one line of JSON\n"
-    "\n"
+    "\n",
     "show shows any sheet field by field with the places of its bytes, and where it is refused; of\n"
     "the shelf's lines every call that it refused as well, on standard output. The options say what\n"
     "is expected of a sheet; without --disks N, those of a request are checked up to 63. --calls is\n"
@@ -86,7 +90,9 @@ static const char HELP[] =
     "an input or a read-only file.\n"
     "Exit status: 0 done; 1 refused, or a file can not be used; 2 called wrongly; 3 the plan or\n"
     "the reasons are shown, and the shelf refused another call, stopped, or ended early, or its\n"
-    "last line is cut.\n";
+    "last line is cut.\n",
+    NULL
+};
 
 static int request(char **words)
 {
@@ -118,27 +124,31 @@ static int request(char **words)
 /* What `tenant plan` is asked for. */
 struct wish {
     const char *places[3];
-    const char *nth, *disks, *age_word, *picture, *request, *calls;
+    const char *nth, *disks, *start_word, *age_word, *picture, *request, *calls;
     bool by_block, json, line, time;
     uint32_t unit, tenancy, number, age;
+    enum start start;
 };
 
 static bool read_wish(char **words, struct wish *w)
 {
     const struct option options[] = {
-        { "--nth", &w->nth, NULL }, { "--disks", &w->disks, NULL }, { "--age", &w->age_word, NULL },
-        { "--svg", &w->picture, NULL }, { "--request", &w->request, NULL }, { "--calls", &w->calls, NULL },
-        { "--by-block", NULL, &w->by_block }, { "--json", NULL, &w->json }, { "--line", NULL, &w->line },
-        { "--time", NULL, &w->time }, { NULL, NULL, NULL }
+        { "--nth", &w->nth, NULL }, { "--disks", &w->disks, NULL }, { "--start", &w->start_word, NULL },
+        { "--age", &w->age_word, NULL }, { "--svg", &w->picture, NULL }, { "--request", &w->request, NULL },
+        { "--calls", &w->calls, NULL }, { "--by-block", NULL, &w->by_block }, { "--json", NULL, &w->json },
+        { "--line", NULL, &w->line }, { "--time", NULL, &w->time }, { NULL, NULL, NULL }
     };
     memset(w, 0, sizeof *w);
     if (!options_read(words, w->places, 2, 3, options) || !word_number("UNIT", w->places[0], &w->unit)
         || !word_number("TENANCY", w->places[1], &w->tenancy)
         || (w->nth != NULL && !word_number("--nth", w->nth, &w->number))
+        || (w->start_word != NULL && !start_named(w->start_word, &w->start))
         || (w->age_word != NULL && !word_number("--age", w->age_word, &w->age)))
         return false;
     if (w->nth != NULL && w->number == 0)
         say("--nth counts from 1");
+    else if (w->start_word != NULL && w->disks == NULL)
+        say("--start is about the delays and loads of a table, so it needs --disks TABLE");
     else if (w->age_word != NULL && w->disks == NULL)
         say("--age is taken off the loads of a table, so it needs --disks TABLE");
     else if (w->by_block + w->json + w->line + w->time > 1)
@@ -152,20 +162,32 @@ static bool read_wish(char **words, struct wish *w)
     return false;
 }
 
-/* Takes kind and age of the request that a plan answers, where the calls tell which that is. */
-static void take_sent(const struct wish *w, const struct found *found, struct blocks *sent)
+/* What the calls tell of the request and the settings that a plan is of; the kinds are 0 where they do not. */
+struct sent {
+    const char *name;
+    uint32_t request, settings;     /* the kinds */
+    uint32_t age;
+    enum start start;
+};
+
+static void take_sent(const struct wish *w, const struct found *found, struct sent *sent)
 {
-    static struct contents request;
-    if (found->call == NULL)
-        return;
-    contents_read(&found->call->sheet, &ANYTHING, &request, NULL);
-    sent->name = w->calls;
-    sent->kind = request.kind;
-    sent->age = request.age;
+    static struct contents contents;
+    *sent = (struct sent){ .name = w->calls, .start = SUM };
+    if (found->call != NULL) {
+        contents_read(&found->call->sheet, &ANYTHING, &contents, NULL);
+        sent->request = contents.kind;
+        sent->age = contents.age;
+    }
+    if (found->settings != NULL) {
+        contents_read(&found->settings->sheet, &ANYTHING, &contents, NULL);
+        sent->settings = contents.kind;
+        sent->start = contents.start;
+    }
 }
 
 /* Reads the plan of a sheet's file; what the shelf refused beside it is told. */
-static bool read_plan(const struct wish *w, struct plan *plan, struct blocks *sent, bool *told)
+static bool read_plan(const struct wish *w, struct plan *plan, struct sent *sent, bool *told)
 {
     struct sheets sheets;
     const struct found *found;
@@ -198,38 +220,61 @@ static bool read_request(const char *path, const struct plan *plan, uint32_t dis
     return blocks_read(path, &expected, blocks) && blocks_sheet(blocks, plan->unit, plan->tenancy, disks, sheet) > 0;
 }
 
-/* Where an age may stand. */
+/* Where something is told: an option, a sheet or the calls. */
 struct source {
     const char *name;
     bool known;
-    uint32_t age;
+    uint32_t value;
 };
+enum { SOURCES = 3 };
 
-/*
- * Takes the loads at the age that is given, or that the request has, as a sheet or among the calls; where several tell
- * it, they have to tell the same. A table whose loads are taken as they are stays as it is.
- */
-static bool take_age(const struct wish *w, const struct blocks *blocks, const struct blocks *sent, struct table *table)
+/* The first of them that tells, null for none; false where another tells otherwise, and then `other` is that one. */
+static bool agree(const struct source sources[SOURCES], const struct source **first, const struct source **other)
 {
-    const struct source sources[] = { { "--age", w->age_word != NULL, w->age }, { blocks->name, blocks->kind != 0,
-        blocks->age }, { sent->name, sent->kind != 0, sent->age } };
-    const bool aged = w->age_word != NULL || blocks->kind == RP_AGED_REQUEST || sent->kind == RP_AGED_REQUEST;
-    const struct source *first = NULL;
-    for (size_t i = 0; i < sizeof sources / sizeof sources[0]; i++) {
-        if (first != NULL && sources[i].known && sources[i].age != first->age) {
-            say("the age of the request is %s by %s and %s by %s", grouped(first->age).text, first->name,
-                grouped(sources[i].age).text, sources[i].name);
+    *first = NULL;
+    for (*other = sources; *other < sources + SOURCES; ++*other) {
+        if (*first != NULL && (*other)->known && (*other)->value != (*first)->value)
             return false;
-        }
-        first = first == NULL && sources[i].known ? &sources[i] : first;
+        *first = *first == NULL && (*other)->known ? *other : *first;
+    }
+    return true;
+}
+
+/* Takes the loads at the request's age; a table whose loads count as they are stays as it is. */
+static bool take_age(const struct wish *w, const struct blocks *blocks, const struct sent *sent, struct table *table)
+{
+    const struct source sources[SOURCES] = { { "--age", w->age_word != NULL, w->age },
+        { blocks->name, blocks->kind != 0, blocks->age }, { sent->name, sent->request != 0, sent->age } };
+    const bool aged = w->age_word != NULL || blocks->kind == RP_AGED_REQUEST || sent->request == RP_AGED_REQUEST;
+    const struct source *first, *other;
+    if (!agree(sources, &first, &other)) {
+        say("the age of the request is %s by %s and %s by %s", grouped(first->value).text, first->name,
+            grouped(other->value).text, other->name);
+        return false;
     }
     if (aged)
-        table_age(table, first->age);
+        table_age(table, first->value);
+    return true;
+}
+
+/* Takes how the disks start. */
+static bool take_start(const struct wish *w, const struct sent *sent, struct table *table)
+{
+    const struct source sources[SOURCES] = { { "--start", w->start_word != NULL, w->start },
+        { table->name, table->kind != 0, table->start }, { sent->name, sent->settings != 0, sent->start } };
+    const struct source *first, *other;
+    if (!agree(sources, &first, &other)) {
+        say("the start of each disk is the %s by %s and the %s by %s", start_name((enum start)first->value),
+            first->name, start_name((enum start)other->value), other->name);
+        return false;
+    }
+    if (first != NULL)
+        table->start = (enum start)first->value;
     return true;
 }
 
 /* Reads what the plan is held against, and holds it. */
-static bool read_rest(const struct wish *w, const struct plan *plan, const struct blocks *sent, struct table *table,
+static bool read_rest(const struct wish *w, const struct plan *plan, const struct sent *sent, struct table *table,
     struct blocks *blocks, struct reason *reason)
 {
     const bool by_table = w->disks != NULL, by_request = w->request != NULL;
@@ -237,7 +282,7 @@ static bool read_rest(const struct wish *w, const struct plan *plan, const struc
         return false;
     if (by_request && !read_request(w->request, plan, by_table ? (uint32_t)table->count : RP_MOST_DISKS, blocks))
         return false;
-    return (!by_table || (take_age(w, blocks, sent, table) && plan_fits(plan, table)))
+    return (!by_table || (take_start(w, sent, table) && take_age(w, blocks, sent, table) && plan_fits(plan, table)))
         && (!by_request || plan_holds(plan, blocks))
         && (!by_table || !by_request || plan_reason(plan, blocks, table, reason));
 }
@@ -274,8 +319,9 @@ static int plan(char **words)
 {
     static struct plan plan;
     struct wish w;
-    struct table table = { NULL, NULL, 0, false, 0 };
-    struct blocks blocks = { NULL, NULL, 0, 0, 0 }, sent = blocks;
+    struct table table = { .rows = NULL };
+    struct blocks blocks = { .list = NULL };
+    struct sent sent;
     struct reason reason;
     bool good, told = false;
     if (!read_wish(words, &w))

@@ -123,16 +123,32 @@ static void bracket(char *line, size_t from, size_t to, uint32_t block)
         memcpy(line + from + 1, word.text, len);
 }
 
-/* One disk from 0 to R. A block that is narrower than a column has one all the same. */
-static void draw_line(const struct plan *plan, const struct row *row, uint32_t disk, char *line, size_t width)
+/*
+ * What a disk waits for before its first block: delay and load after each other or, where they overlap, from 0 both, so
+ * that first they are at once and then one of them is alone.
+ */
+static void draw_wait(const struct table *table, uint32_t disk, uint64_t time, char *line, size_t width)
 {
-    uint64_t at = start_of(row);
+    const struct row *row = &table->rows[disk];
+    const uint32_t both = row->delay < row->load ? row->delay : row->load;
+    memset(line, '.', start_of(table, disk) * width / time);
+    if (table->start == LARGER) {
+        memset(line, row->delay > row->load ? '-' : '.', start_of(table, disk) * width / time);
+        memset(line, ':', both * width / time);
+    }
+}
+
+/* One disk from 0 to R. A block that is narrower than a column has one all the same. */
+static void draw_line(const struct plan *plan, const struct table *table, uint32_t disk, char *line, size_t width)
+{
+    const struct row *row = &table->rows[disk];
+    uint64_t at = start_of(table, disk);
     bool brackets = plan->time > 0 && row->cost * width / plan->time >= IN_BRACKETS;
     memset(line, ' ', width);
     line[width] = '\0';
     if (plan->counts[disk] == 0)
         return;
-    memset(line, '.', at * width / plan->time);
+    draw_wait(table, disk, plan->time, line, width);
     for (uint32_t b = next_on(plan, disk, 0); b < plan->blocks; b = next_on(plan, disk, b + 1)) {
         size_t from = at * width / plan->time, to = (at + row->cost) * width / plan->time;
         if (to == from)
@@ -144,27 +160,39 @@ static void draw_line(const struct plan *plan, const struct row *row, uint32_t d
     }
 }
 
+/* What the marks of the timeline are, and how the starts come about. */
+static void show_marks(const struct view *view, struct bytes *text)
+{
+    const char *left = view->table->aged ? " left" : "";
+    struct bytes starts = bytes_new();
+    if (view->table->start == LARGER)
+        add_sentence(view, text, "times in microseconds; : delay and load%s at once, - delay alone, . load%s alone, "
+            "= a block, # a block of the short set", left, left);
+    else
+        add_sentence(view, text, "times in microseconds; . delay and load%s, = a block, # a block of the short set",
+            left);
+    add_starts(&starts, view->table);
+    for (char *one = bytes_text(&starts), *end; *one != '\0'; one = end + 1) {
+        end = strchr(one, '\n');
+        add_sentence(view, text, "%.*s", (int)(end - one), one);
+    }
+    bytes_free(&starts);
+}
+
 static void show_timeline(const struct view *view, struct bytes *text)
 {
     const struct plan *plan = view->plan;
     size_t width = view->width < BESIDE_LINE + LEAST_LINE ? LEAST_LINE : view->width - BESIDE_LINE;
-    struct bytes age = bytes_new();
     char line[MOST_LINE + 1];
     width = width > MOST_LINE ? MOST_LINE : width;
     bytes_addf(text, "\ndisk        start          end  0%*s\n", (int)width, "R");
     for (uint32_t d = 0; d < view->table->count; d++) {
-        const struct row *row = &view->table->rows[d];
-        draw_line(plan, row, d, line, width);
+        draw_line(plan, view->table, d, line, width);
         bytes_addf(text, "%4u  %11s  %11s  |%s|\n", (unsigned)d,
-            plan->counts[d] == 0 ? "idle" : grouped(start_of(row)).text,
-            grouped(end_of(row, plan->counts[d])).text, line);
+            plan->counts[d] == 0 ? "idle" : grouped(start_of(view->table, d)).text,
+            grouped(end_of(view->table, d, plan->counts[d])).text, line);
     }
-    add_sentence(view, text, "times in microseconds; . delay and load%s, = a block, # a block of the short set",
-        view->table->aged ? " left" : "");
-    add_age(&age, view->table);
-    if (age.len > 0)
-        add_sentence(view, text, "%s", bytes_text(&age));
-    bytes_free(&age);
+    show_marks(view, text);
 }
 
 static void show_short_set(const struct view *view, struct bytes *text)
@@ -201,7 +229,7 @@ static void show_reason(const struct view *view, struct bytes *text)
     bytes_addf(text, "disk        start      a block         room\n");
     for (uint32_t d = 0; d < view->table->count; d++)
         if (view->reason->disks >> d & 1)
-            bytes_addf(text, "%4u  %11s  %11s  %11s\n", (unsigned)d, grouped(start_of(&view->table->rows[d])).text,
+            bytes_addf(text, "%4u  %11s  %11s  %11s\n", (unsigned)d, grouped(start_of(view->table, d)).text,
                 grouped(view->table->rows[d].cost).text, grouped(view->reason->room[d]).text);
     bytes_addf(text, " sum  %11s  %11s  %11s\n", "", "", grouped(view->reason->sum).text);
 }

@@ -90,10 +90,7 @@ static void add_title(struct bytes *text, const struct question *q)
     else
         bytes_addf(text, "%zu block%s; no plan of this request under these settings, so R is not known\n",
             q->blocks.count, plural(q->blocks.count));
-    if (q->table.aged) {
-        add_age(text, &q->table);
-        bytes_addf(text, "\n");
-    }
+    add_starts(text, &q->table);
 }
 
 /* Whether two neighbours on a disk have one line in its table. */
@@ -233,6 +230,8 @@ void why_json(const struct choice *choice, struct bytes *text)
         bytes_addf(text, ",\"time\":%u", (unsigned)q->plan.time);
     if (q->table.aged)
         bytes_addf(text, ",\"age\":%u", (unsigned)q->table.age);
+    if (q->table.start != SUM)
+        bytes_addf(text, ",\"start_rule\":\"%s\"", start_name(q->table.start));
     bytes_addf(text, ",\"held\":%s,\"reasons\":[", q->plan_line > 0 ? "true" : "false");
     for (size_t i = 0; i < q->count; i++) {
         const struct pair *pair = &q->pairs[i];

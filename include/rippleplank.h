@@ -11,6 +11,8 @@
  *   block       one of a request's Q blocks, 0 to Q - 1; Q is 0 to 1,024
  *   copies      the disks that hold a block, one 64-bit number: bit d stands for disk d
  *   cost, load, delay   a disk's microseconds for one block, still to work off, and of travel
+ *   start       when a disk begins its first block: its delay and its load after each other or, where the
+ *               wait overlaps the queue, the larger of both
  *   age         the microseconds since the settings were measured; each load counts as the load less the
  *               age, and as 0 if the age is larger
  *   R           the plan's time in microseconds
@@ -41,7 +43,7 @@ extern "C" {
  * The version of this header. That of the library which is linked is rp_version(). The first number is higher where a
  * function takes other arguments, the second where something was added or an answer is another.
  */
-#define RP_VERSION "2.0.0"
+#define RP_VERSION "2.1.0"
 
 /* The refusals. The desk end gives 1 to 9, 11, 15 and 16; a unit gives 10 and 12 to 14 as well. */
 enum {
@@ -85,7 +87,8 @@ enum {
 };
 
 /*
- * Writes the settings sheet of a unit for a tenancy: one cost, load and delay for each disk.
+ * Writes the settings sheet of a unit for a tenancy: one cost, load and delay for each disk. A disk
+ * starts at the sum of its delay and its load.
  *
  * The lengths are in bytes; costs_len / 4 is the number of disks.
  * Accepted: out begins with the sheet, rp_length of the answer says how long it is, and what is in
@@ -98,6 +101,14 @@ enum {
  * rp_place of the others is 0: there is no sheet yet.
  */
 uint64_t rp_write_settings(uint32_t unit, uint32_t tenancy,
+    const uint8_t *costs, size_t costs_len, const uint8_t *loads, size_t loads_len,
+    const uint8_t *delays, size_t delays_len, uint8_t *out, size_t out_len);
+
+/*
+ * The same, of kind 5: every disk of the unit starts at the larger of its delay and its load, since it works
+ * off its load while the request travels. All else is as above, the refusals and their order too.
+ */
+uint64_t rp_write_settings_overlap(uint32_t unit, uint32_t tenancy,
     const uint8_t *costs, size_t costs_len, const uint8_t *loads, size_t loads_len,
     const uint8_t *delays, size_t delays_len, uint8_t *out, size_t out_len);
 

@@ -221,7 +221,7 @@ mod tests {
     use std::collections::BTreeMap;
 
     use super::*;
-    use crate::model::Disk;
+    use crate::model::Row;
     use crate::number::Reader;
     use crate::refusal::Refused;
     use crate::sheets::{read_request, read_settings, Request};
@@ -253,14 +253,14 @@ mod tests {
     }
 
     /// An accepted request of a stream: its call, 3 or 5, what it says, and the table last set.
-    type Asked = (u32, Request, Vec<Disk>);
+    type Asked = (u32, Request, Vec<Row>);
 
     /// One call of a stream, done; what it asked, if it did.
     fn asked_by(
         piece: &[u8],
         number: u32,
         unit: &mut Unit,
-        table: &mut Vec<Disk>,
+        table: &mut Vec<Row>,
     ) -> Result<Option<Asked>, Refused> {
         let mut reader = Reader::new(piece);
         let call = reader.number()?;
@@ -269,7 +269,7 @@ mod tests {
             2 => {
                 let sheet = sheet_in(&mut reader)?;
                 unit.settings(sheet)?;
-                *table = read_settings(sheet, number, unit.tenancy())?;
+                *table = read_settings(sheet, number, unit.tenancy())?.rows;
             }
             4 => unit.give_back(reader.number()?)?,
             _ => {
@@ -316,7 +316,7 @@ mod tests {
                     Some(0) => meets("age 0"),
                     Some(u32::MAX) => meets("the greatest age"),
                     Some(age) => {
-                        let loads = || table.iter().map(|disk| disk.load).filter(|&load| load > 0);
+                        let loads = || table.iter().map(|row| row.load).filter(|&load| load > 0);
                         for (what, side, _) in sides {
                             if loads().any(|load| age.cmp(&load) == side) {
                                 meets(what);

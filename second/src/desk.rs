@@ -3,7 +3,7 @@
 use std::io::{BufRead, Write};
 
 use crate::hex;
-use crate::model::Disk;
+use crate::model::{Row, Rule, Table};
 use crate::refusal::{Refused, NO_ROOM, RANGE};
 use crate::sheets::{read_plan, write_request, write_settings, Wanted};
 
@@ -24,7 +24,8 @@ pub fn run(input: &mut impl BufRead, output: &mut impl Write) {
 pub fn answer(line: &str) -> String {
     let words: Vec<&str> = line.split(' ').collect();
     let found = match words[0] {
-        "settings" => settings(&words[1..]),
+        "settings" => settings(Rule::Sum, &words[1..]),
+        "larger" => settings(Rule::Larger, &words[1..]),
         "request" => request(&words[1..]),
         "plan" => plan(&words[1..]),
         _ => None,
@@ -32,14 +33,15 @@ pub fn answer(line: &str) -> String {
     found.unwrap_or_else(|| "not a line of the desk".to_string())
 }
 
-fn settings(words: &[&str]) -> Option<String> {
+fn settings(rule: Rule, words: &[&str]) -> Option<String> {
     let &[room, unit, tenancy, costs, loads, delays] = words else {
         return None;
     };
     let room = room.parse().ok()?;
     let (unit, tenancy) = (unit.parse().ok()?, tenancy.parse().ok()?);
     let lists = [hex::read(costs)?, hex::read(loads)?, hex::read(delays)?];
-    let sheet = rows(&lists).and_then(|disks| write_settings(unit, tenancy, &disks, room));
+    let table = rows(&lists).map(|rows| Table { rule, rows });
+    let sheet = table.and_then(|table| write_settings(unit, tenancy, &table, room));
     Some(wrote(sheet, room))
 }
 
@@ -100,7 +102,7 @@ fn read_into(
 }
 
 /// Three lists of 32-bit numbers, lowest byte first; unequal or broken lists get 6.
-fn rows(lists: &[Vec<u8>; 3]) -> Result<Vec<Disk>, Refused> {
+fn rows(lists: &[Vec<u8>; 3]) -> Result<Vec<Row>, Refused> {
     let [costs, loads, delays] = lists;
     if costs.len() != loads.len() || costs.len() != delays.len() || !costs.len().is_multiple_of(4) {
         return Err(RANGE.nowhere());
@@ -108,7 +110,7 @@ fn rows(lists: &[Vec<u8>; 3]) -> Result<Vec<Disk>, Refused> {
     let read = |list: &[u8], at: usize| {
         u32::from_le_bytes([list[at], list[at + 1], list[at + 2], list[at + 3]])
     };
-    let row = |at| Disk {
+    let row = |at| Row {
         cost: read(costs, at),
         load: read(loads, at),
         delay: read(delays, at),
@@ -162,6 +164,23 @@ mod tests {
             "refused 6 0 a5"
         );
         assert_eq!(answer("settings 0 7 5 - - -"), "refused 6 0 -");
+        assert_eq!(
+            answer("larger 8 7 5 04000000 02000000 01000000"),
+            "wrote 7 05070501040201a5"
+        );
+        assert_eq!(
+            answer("larger 6 7 5 04000000 02000000 01000000"),
+            "refused 11 7 a5a5a5a5a5a5"
+        );
+        assert_eq!(
+            answer("larger 0 7 0 04000000 02000000 01000000"),
+            "refused 6 0 -"
+        );
+        assert_eq!(
+            answer("larger 0 7 5 00000000 02000000 01000000"),
+            "refused 15 0 -"
+        );
+        assert_eq!(answer("larger 0 7 5 - - -"), "refused 6 0 -");
         assert_eq!(
             answer("request 7 2 7 5 0 2 0300000000000000"),
             "wrote 7 02070501020001"

@@ -10,10 +10,32 @@ pub const MOST_TIME: u32 = 1_125_000_000;
 
 /// A row of the table.
 #[derive(Clone, Copy, Debug, PartialEq, Eq)]
-pub struct Disk {
+pub struct Row {
     pub cost: u32,
     pub load: u32,
     pub delay: u32,
+}
+
+/// Whether a disk starts after delay and load, or after the larger of them.
+#[derive(Clone, Copy, Debug, Default, PartialEq, Eq)]
+pub enum Rule {
+    #[default]
+    Sum,
+    Larger,
+}
+
+/// What a settings sheet says; the sum and no rows stand for none yet.
+#[derive(Clone, Debug, Default, PartialEq, Eq)]
+pub struct Table {
+    pub rule: Rule,
+    pub rows: Vec<Row>,
+}
+
+/// A disk as the model sees it.
+#[derive(Clone, Copy, Debug, PartialEq, Eq)]
+pub struct Disk {
+    pub start: u64,
+    pub cost: u64,
 }
 
 /// The answer to a read request.
@@ -47,32 +69,45 @@ impl Reason {
     }
 }
 
+impl Row {
+    /// The disk so long after its load was measured: the load less that age, 0 if the age is larger, and then the rule.
+    fn disk(&self, rule: Rule, age: u32) -> Disk {
+        let (load, delay) = (self.load.saturating_sub(age), self.delay);
+        let start = match rule {
+            Rule::Sum => u64::from(delay) + u64::from(load),
+            Rule::Larger => u64::from(delay.max(load)),
+        };
+        let cost = u64::from(self.cost);
+        Disk { start, cost }
+    }
+}
+
+impl Table {
+    /// The disks for a request of that age.
+    pub fn disks(&self, age: u32) -> Vec<Disk> {
+        self.rows
+            .iter()
+            .map(|row| row.disk(self.rule, age))
+            .collect()
+    }
+}
+
 impl Disk {
-    fn start(&self) -> u64 {
-        u64::from(self.delay) + u64::from(self.load)
-    }
-
-    /// The disk so long after its load was measured: the load less that age, and 0 if the age is larger.
-    pub fn aged(&self, age: u32) -> Disk {
-        let load = self.load.saturating_sub(age);
-        Disk { load, ..*self }
-    }
-
     /// When reading so many blocks ends; an idle disk ends at 0.
     pub fn end(&self, blocks: u64) -> u64 {
         if blocks == 0 {
             0
         } else {
-            self.start() + blocks * u64::from(self.cost)
+            self.start + blocks * self.cost
         }
     }
 
     /// How many blocks can be read by a time.
     pub fn capacity(&self, time: u64) -> u64 {
-        if time < self.start() {
+        if time < self.start {
             0
         } else {
-            (time - self.start()) / u64::from(self.cost)
+            (time - self.start) / self.cost
         }
     }
 }
@@ -114,49 +149,59 @@ pub fn shortfall(disks: &[Disk], copies: &[u64], set: &[usize], time: u64) -> i6
 mod tests {
     use super::*;
 
+    const RULES: [Rule; 2] = [Rule::Sum, Rule::Larger];
+
     #[test]
     fn p9() {
-        let disk = Disk {
+        let row = Row {
             cost: 3,
             load: 2,
             delay: 0,
         };
-        let found: Vec<u64> = [1, 4, 5, 7, 8]
-            .iter()
-            .map(|&time| disk.capacity(time))
-            .collect();
-        assert_eq!(found, [0, 0, 1, 1, 2]);
+        for rule in RULES {
+            let found = [1, 4, 5, 7, 8].map(|time| row.disk(rule, 0).capacity(time));
+            assert_eq!(found, [0, 0, 1, 1, 2]);
+        }
     }
 
     #[test]
     fn a_load_is_worked_off_and_no_more() {
-        let disk = Disk {
+        let row = Row {
             cost: 3,
             load: 200,
             delay: 7,
         };
-        let found = [0, 1, 199, 200, 201, u32::MAX].map(|age| disk.aged(age).end(1));
-        assert_eq!(found, [210, 209, 11, 10, 10, 10]);
-        let found = [0, 1, 199, 200, 201, u32::MAX].map(|age| disk.aged(age).capacity(17));
-        assert_eq!(found, [0, 0, 3, 3, 3, 3]);
-        assert_eq!(disk.aged(0), disk);
-        assert_eq!(disk.aged(50).aged(60), disk.aged(110));
+        let ages = [0, 1, 193, 194, 199, 200, 201, u32::MAX];
+        let ends = |rule| ages.map(|age| row.disk(rule, age).end(1));
+        assert_eq!(ends(Rule::Sum), [210, 209, 17, 16, 11, 10, 10, 10]);
+        assert_eq!(ends(Rule::Larger), [203, 202, 10, 10, 10, 10, 10, 10]);
+        let rooms = |rule| ages.map(|age| row.disk(rule, age).capacity(17));
+        assert_eq!(rooms(Rule::Sum), [0, 0, 1, 1, 3, 3, 3, 3]);
+        assert_eq!(rooms(Rule::Larger), [0, 0, 3, 3, 3, 3, 3, 3]);
+    }
+
+    /// The larger is reached with equal values, with either one above, and with 0.
+    #[test]
+    fn a_disk_starts_by_the_rule() {
+        let starts = |load, delay| {
+            let row = Row {
+                cost: 1,
+                load,
+                delay,
+            };
+            RULES.map(|rule| row.disk(rule, 0).start)
+        };
+        assert_eq!(starts(5, 5), [10, 5]);
+        assert_eq!(starts(4, 5), [9, 5]);
+        assert_eq!(starts(5, 4), [9, 5]);
+        assert_eq!(starts(0, 5), [5, 5]);
+        assert_eq!(starts(5, 0), [5, 5]);
+        assert_eq!(starts(MOST_LOAD, MOST_DELAY), [101_000_000, 100_000_000]);
     }
 
     #[test]
     fn an_idle_disk_ends_at_0() {
-        let disks = [
-            Disk {
-                cost: 1,
-                load: 9,
-                delay: 9,
-            },
-            Disk {
-                cost: 2,
-                load: 0,
-                delay: 1,
-            },
-        ];
+        let disks = [Disk { start: 18, cost: 1 }, Disk { start: 1, cost: 2 }];
         assert_eq!(response(&disks, &[1, 1]), 5);
         assert_eq!(response(&disks, &[]), 0);
     }

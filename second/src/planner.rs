@@ -28,9 +28,8 @@ mod tests {
     use crate::random::Random;
 
     fn document_disks() -> Vec<Disk> {
-        let rows = [(4, 0, 1), (3, 2, 0), (10, 0, 0)];
-        rows.map(|(cost, load, delay)| Disk { cost, load, delay })
-            .to_vec()
+        let rows = [(4, 1), (3, 2), (10, 0)];
+        rows.map(|(cost, start)| Disk { start, cost }).to_vec()
     }
 
     fn check(copies: &[u64], time: u32, disks: &[u8], short: &[u16]) {
@@ -89,9 +88,9 @@ mod tests {
                 continue;
             }
             for block in 0..case.copies.len() {
-                for disk in 0..case.disks.len() {
-                    let found = brute::reason(&case.disks, &case.copies, block, disk);
-                    let other = halving::reason(&case.disks, &case.copies, block, disk);
+                for disk in 0..case.table.rows.len() {
+                    let found = brute::reason(&case.disks(), &case.copies, block, disk);
+                    let other = halving::reason(&case.disks(), &case.copies, block, disk);
                     assert_eq!(found, other, "{case:?} {block} {disk}");
                     counts[found.numbers().0 as usize] += 1;
                 }
@@ -105,13 +104,13 @@ mod tests {
         let mut random = Random::new(15);
         for _ in 0..60 {
             let case = whole::medium(&mut random);
-            let chosen = plan(&case.disks, &case.copies);
+            let chosen = plan(&case.disks(), &case.copies);
             let block = random.index(case.copies.len());
             for disk in disks_of(case.copies[block]) {
                 let mut forced = case.copies.clone();
                 forced[block] = 1 << disk;
-                let instead = plan(&case.disks, &forced);
-                match reason(&case.disks, &case.copies, block, disk) {
+                let instead = plan(&case.disks(), &forced);
+                match reason(&case.disks(), &case.copies, block, disk) {
                     Reason::Chosen => assert_eq!(instead, chosen_with(&chosen, &instead)),
                     Reason::Later(time) => {
                         assert!(time > chosen.time);
@@ -147,8 +146,8 @@ mod tests {
             let case = whole::small(&mut random);
             if brute::fits(&case.copies) {
                 let (one, other) = (
-                    brute::plan(&case.disks, &case.copies),
-                    halving::plan(&case.disks, &case.copies),
+                    brute::plan(&case.disks(), &case.copies),
+                    halving::plan(&case.disks(), &case.copies),
                 );
                 assert_eq!(one, other, "{case:?}");
             }
@@ -161,7 +160,8 @@ mod tests {
         for code in 0..343u64 {
             let copies = [code % 7 + 1, code / 7 % 7 + 1, code / 49 + 1];
             for _ in 0..4 {
-                let disks = whole::table(&mut random, 3, 4, 4, 2);
+                let table = whole::table(&mut random, 3, 4, 4, 2);
+                let disks = table.disks(random.within(0, 4));
                 assert_eq!(brute::plan(&disks, &copies), halving::plan(&disks, &copies));
             }
         }
@@ -172,12 +172,12 @@ mod tests {
         let mut random = Random::new(13);
         for _ in 0..3 {
             let case = whole::largest(&mut random);
-            let plan = plan(&case.disks, &case.copies);
+            let plan = plan(&case.disks(), &case.copies);
             let schedule: Vec<usize> = plan.disks.iter().map(|&disk| usize::from(disk)).collect();
-            assert_eq!(response(&case.disks, &schedule), u64::from(plan.time));
+            assert_eq!(response(&case.disks(), &schedule), u64::from(plan.time));
             let short: Vec<usize> = plan.short.iter().map(|&block| usize::from(block)).collect();
             let before = u64::from(plan.time) - 1;
-            assert!(shortfall(&case.disks, &case.copies, &short, before) > 0);
+            assert!(shortfall(&case.disks(), &case.copies, &short, before) > 0);
         }
     }
 }

@@ -8,6 +8,7 @@ pub const SETTINGS: u32 = 1;
 pub const REQUEST: u32 = 2;
 pub const PLAN: u32 = 3;
 pub const AGED_REQUEST: u32 = 4;
+pub const LARGER_SETTINGS: u32 = 5;
 pub const LONGEST_REQUEST: u32 = 9_234;
 pub const LONGEST_PLAN: usize = 2_964;
 
@@ -57,19 +58,25 @@ fn read_rising(reader: &mut Reader, high: u32, before: Option<u32>) -> Result<u3
     Ok(value)
 }
 
-pub fn read_settings(sheet: &[u8], unit: u32, tenancy: u32) -> Result<Vec<Disk>, Refused> {
+pub fn read_settings(sheet: &[u8], unit: u32, tenancy: u32) -> Result<Table, Refused> {
     let mut reader = Reader::new(sheet);
-    read_head(&mut reader, &[SETTINGS], unit, tenancy)?;
+    let kinds = [SETTINGS, LARGER_SETTINGS];
+    let kind = read_head(&mut reader, &kinds, unit, tenancy)?;
+    let rule = if kind == LARGER_SETTINGS {
+        Rule::Larger
+    } else {
+        Rule::Sum
+    };
     let count = reader.within(1, MOST_DISKS, RANGE)?;
-    let mut disks = Vec::new();
+    let mut rows = Vec::new();
     for _ in 0..count {
         let cost = reader.within(1, MOST_COST, VALUE)?;
         let load = reader.within(0, MOST_LOAD, VALUE)?;
         let delay = reader.within(0, MOST_DELAY, VALUE)?;
-        disks.push(Disk { cost, load, delay });
+        rows.push(Row { cost, load, delay });
     }
     reader.finish()?;
-    Ok(disks)
+    Ok(Table { rule, rows })
 }
 
 /// A table of 0 disks stands for no settings yet, which is refused before the age.
@@ -165,20 +172,24 @@ fn count_in_range(count: usize, low: u32, high: u32) -> Result<u32, Refused> {
     in_range(u32::try_from(count).unwrap_or(u32::MAX), low, high, RANGE)
 }
 
-/// The desk's settings writer; the three lists come one row a disk.
+/// The desk's settings writers, one for each start rule; the three lists come one row a disk.
 pub fn write_settings(
     unit: u32,
     tenancy: u32,
-    disks: &[Disk],
+    table: &Table,
     room: usize,
 ) -> Result<Vec<u8>, Refused> {
     in_range(tenancy, 1, u32::MAX, RANGE)?;
-    let mut out = write_head(SETTINGS, unit, tenancy);
-    write(&mut out, count_in_range(disks.len(), 1, MOST_DISKS)?);
-    for disk in disks {
-        write(&mut out, in_range(disk.cost, 1, MOST_COST, VALUE)?);
-        write(&mut out, in_range(disk.load, 0, MOST_LOAD, VALUE)?);
-        write(&mut out, in_range(disk.delay, 0, MOST_DELAY, VALUE)?);
+    let kind = match table.rule {
+        Rule::Sum => SETTINGS,
+        Rule::Larger => LARGER_SETTINGS,
+    };
+    let mut out = write_head(kind, unit, tenancy);
+    write(&mut out, count_in_range(table.rows.len(), 1, MOST_DISKS)?);
+    for row in &table.rows {
+        write(&mut out, in_range(row.cost, 1, MOST_COST, VALUE)?);
+        write(&mut out, in_range(row.load, 0, MOST_LOAD, VALUE)?);
+        write(&mut out, in_range(row.delay, 0, MOST_DELAY, VALUE)?);
     }
     fitting(out, room)
 }
@@ -243,13 +254,17 @@ mod tests {
 
     #[test]
     fn the_longest_sheets() {
-        let row = Disk {
+        let row = Row {
             cost: MOST_COST,
             load: MOST_LOAD,
             delay: MOST_DELAY,
         };
-        let settings = write_settings(u32::MAX, u32::MAX, &[row; 64], 652).unwrap();
-        assert_eq!(settings.len(), 652);
+        for rule in [Rule::Sum, Rule::Larger] {
+            let rows = vec![row; 64];
+            let table = Table { rule, rows };
+            let settings = write_settings(u32::MAX, u32::MAX, &table, 652).unwrap();
+            assert_eq!(settings.len(), 652);
+        }
         for (kind, age, length) in [(REQUEST, 0, 9_229), (AGED_REQUEST, u32::MAX, 9_234)] {
             let wanted = Wanted {
                 kind,
@@ -282,13 +297,13 @@ mod tests {
         for _ in 0..2_000 {
             let case = whole::any(&mut random);
             let (unit, tenancy) = (random.number(), random.number().max(1));
-            let settings = write_settings(unit, tenancy, &case.disks, 652).unwrap();
+            let settings = write_settings(unit, tenancy, &case.table, 652).unwrap();
             assert_eq!(
                 read_settings(&settings, unit, tenancy),
-                Ok(case.disks.clone())
+                Ok(case.table.clone())
             );
-            let disks = case.disks.len() as u32;
-            let age = whole::age(&mut random, &case.disks);
+            let disks = case.table.rows.len() as u32;
+            let age = whole::age(&mut random, &case.table.rows);
             let wanted = Wanted {
                 kind: if age.is_some() { 4 } else { 2 },
                 unit,
@@ -306,7 +321,7 @@ mod tests {
                 })
             );
             if case.copies.len() < 100 {
-                let plan = planner::plan(&case.disks, &case.copies);
+                let plan = planner::plan(&case.disks(), &case.copies);
                 let sheet = write_plan(unit, tenancy, &plan, LONGEST_PLAN).unwrap();
                 assert_eq!(read_plan(&sheet, unit, tenancy), Ok(plan));
             }
@@ -365,6 +380,29 @@ mod tests {
     }
 
     #[test]
+    fn settings_of_kind_5_have_the_fields_of_kind_1_and_the_other_rule() {
+        let read = |kind, rest: &[u8]| read_settings(&[&[kind], rest].concat(), 7, 5);
+        let whole = [7, 5, 2, 4, 0, 1, 3, 100, 9];
+        let [sum, larger] = [1, 5].map(|kind| read(kind, &whole).unwrap());
+        assert_eq!((sum.rule, larger.rule), (Rule::Sum, Rule::Larger));
+        assert_eq!(sum.rows, larger.rows);
+        for length in 0..whole.len() {
+            assert_eq!(read(5, &whole[..length]), Err(ENDS.at(length + 1)));
+        }
+        for place in 0..whole.len() {
+            for value in [0, 65, 127] {
+                let mut damaged = whole;
+                damaged[place] = value;
+                assert_eq!(read(1, &damaged).err(), read(5, &damaged).err());
+            }
+        }
+        for kind in [0, 2, 3, 4, 6, 7, 8, 127] {
+            assert_eq!(read(kind, &[8]), Err(KIND.at(0)));
+        }
+        assert_eq!(read_settings(&[0x85, 0], 7, 5), Err(FORM.at(0)));
+    }
+
+    #[test]
     fn an_age_stands_after_the_tenancy_and_after_10() {
         let read = |sheet: &[u8], disks| read_request(sheet, 7, 5, disks);
         assert_eq!(read(&[4, 7, 5], 0), Err(NO_SETTINGS.at(3)));
@@ -395,9 +433,18 @@ mod tests {
 
     #[test]
     fn writers_refuse_in_field_order() {
-        let row = |cost, load, delay| Disk { cost, load, delay };
-        let write = |tenancy, disks: &[Disk], room| {
-            write_settings(7, tenancy, disks, room).map(|sheet| sheet.len())
+        let row = |cost, load, delay| Row { cost, load, delay };
+        let write = |tenancy, rows: &[Row], room| {
+            let [sum, larger] = [Rule::Sum, Rule::Larger].map(|rule| {
+                let rows = rows.to_vec();
+                write_settings(7, tenancy, &Table { rule, rows }, room)
+            });
+            if let (Ok(sum), Ok(larger)) = (&sum, &larger) {
+                assert_eq!((sum[0], larger[0]), (1, 5));
+                assert_eq!(sum[1..], larger[1..]);
+            }
+            assert_eq!(sum.as_ref().err(), larger.as_ref().err());
+            larger.map(|sheet| sheet.len())
         };
         assert_eq!(write(0, &[row(1, 0, 0)], 0), Err(RANGE.at(0)));
         assert_eq!(write(0, &[row(0, 0, 0)], 0), Err(RANGE.at(0)));

@@ -2,7 +2,7 @@
 
 use crate::inputs::fields;
 use crate::inputs::whole::{self, Case};
-use crate::model::disks_of;
+use crate::model::{disks_of, Rule};
 use crate::random::Random;
 use crate::sheets::read_plan;
 use crate::unit::Unit;
@@ -17,19 +17,24 @@ impl Small {
     fn any(random: &mut Random) -> Self {
         let mut case = whole::small(random);
         case.copies.truncate(5);
-        let age = whole::age(random, &case.disks);
+        let age = whole::age(random, &case.table.rows);
         Small { case, age }
     }
 
-    /// When a disk starts: its delay and what is left of its load.
+    /// When a disk starts: its delay and what is left of its load, or the larger of them.
     fn start(&self, disk: usize) -> i64 {
-        let row = &self.case.disks[disk];
+        let row = &self.case.table.rows[disk];
         let left = i64::from(row.load) - i64::from(self.age.unwrap_or(0));
-        i64::from(row.delay) + left.max(0)
+        let (left, delay) = (left.max(0), i64::from(row.delay));
+        match self.case.table.rule {
+            Rule::Larger if left > delay => left,
+            Rule::Larger => delay,
+            Rule::Sum => delay + left,
+        }
     }
 
     fn capacity(&self, disk: usize, time: i64) -> i64 {
-        let cost = i64::from(self.case.disks[disk].cost);
+        let cost = i64::from(self.case.table.rows[disk].cost);
         if time < self.start(disk) {
             0
         } else {
@@ -54,7 +59,7 @@ impl Small {
         let timed = |schedule: Vec<usize>| {
             let end = |&disk: &usize| {
                 let count = schedule.iter().filter(|&&other| other == disk).count();
-                self.start(disk) + count as i64 * i64::from(self.case.disks[disk].cost)
+                self.start(disk) + count as i64 * i64::from(self.case.table.rows[disk].cost)
             };
             let time = schedule.iter().map(end).max().unwrap_or(0);
             (schedule, time)
@@ -100,7 +105,7 @@ impl Small {
             .eq(first.iter().copied()));
         assert!(plan.short.iter().map(|&block| usize::from(block)).eq(short));
         for block in 0..first.len() {
-            for disk in 0..self.case.disks.len() {
+            for disk in 0..self.case.table.rows.len() {
                 let there = all.iter().filter(|(schedule, _)| schedule[block] == disk);
                 let forced = there.clone().map(|(_, time)| *time).min();
                 let mut least = there.filter(|(_, other)| *other == time);
@@ -117,25 +122,36 @@ impl Small {
         }
         time
     }
+
+    /// The time of a unit that is set so, its answer checked.
+    fn time(&self, unit: &mut Unit) -> i64 {
+        let settings = fields::bytes(&fields::settings(7, 300, &self.case.table));
+        unit.settings(&settings).unwrap();
+        let sheet = fields::request(7, 300, self.age, &self.case.copies);
+        self.check(unit, &fields::bytes(&sheet))
+    }
 }
 
 #[test]
-fn ages() {
+fn ages_and_rules() {
     let mut random = Random::new(31);
-    let mut sooner = 0;
-    for _ in 0..3_000 {
-        let small = Small::any(&mut random);
-        let mut unit = Unit::new(7);
-        unit.rent(300).unwrap();
-        let settings = fields::bytes(&fields::settings(7, 300, &small.case.disks));
-        unit.settings(&settings).unwrap();
-        let sheet = |age| fields::bytes(&fields::request(7, 300, age, &small.case.copies));
-        let time = small.check(&unit, &sheet(small.age));
-        let plain = Small { age: None, ..small };
-        let sheet = fields::bytes(&fields::request(7, 300, None, &plain.case.copies));
-        let without = plain.check(&unit, &sheet);
+    let (mut by_age, mut by_rule) = (0, 0);
+    let mut unit = Unit::new(7);
+    unit.rent(300).unwrap();
+    for _ in 0..2_000 {
+        let mut small = Small::any(&mut random);
+        let time = small.time(&mut unit);
+        let age = small.age.take();
+        let without = small.time(&mut unit);
         assert!(time <= without);
-        sooner += usize::from(time < without);
+        by_age += usize::from(time < without);
+        small.age = age;
+        let times = [Rule::Larger, Rule::Sum].map(|rule| {
+            small.case.table.rule = rule;
+            small.time(&mut unit)
+        });
+        assert!(times.contains(&time) && times[0] <= times[1]);
+        by_rule += usize::from(times[0] < times[1]);
     }
-    assert!(sooner > 500, "{sooner}");
+    assert!(by_age > 400 && by_rule > 400, "{by_age} {by_rule}");
 }

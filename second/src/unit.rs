@@ -1,17 +1,17 @@
 //! The unit's life.
 
-use crate::model::{Disk, Reason};
+use crate::model::{Disk, Reason, Table};
 use crate::planner;
 use crate::refusal::{Refused, NOT_ABOVE, NOT_RETURNED, NO_SUCH, RENTED};
 use crate::sheets::{read_request, read_settings, write_plan, Request};
 
-/// A unit; an empty table means no settings yet.
+/// A unit; a table without rows means no settings yet.
 #[derive(Clone, Debug, PartialEq, Eq)]
 pub struct Unit {
     number: u32,
     last: u32,
     rented: bool,
-    disks: Vec<Disk>,
+    table: Table,
 }
 
 impl Unit {
@@ -20,12 +20,12 @@ impl Unit {
             number,
             last: 0,
             rented: false,
-            disks: Vec::new(),
+            table: Table::default(),
         }
     }
 
     pub fn disks(&self) -> u32 {
-        self.disks.len() as u32
+        self.table.rows.len() as u32
     }
 
     /// The current tenancy, 0 while not rented.
@@ -50,15 +50,14 @@ impl Unit {
     }
 
     pub fn settings(&mut self, sheet: &[u8]) -> Result<(), Refused> {
-        self.disks = read_settings(sheet, self.number, self.tenancy())?;
+        self.table = read_settings(sheet, self.number, self.tenancy())?;
         Ok(())
     }
 
-    /// An accepted request, and the table with the loads that are left at its age.
+    /// An accepted request, and the disks at its age.
     fn asked(&self, sheet: &[u8]) -> Result<(Vec<Disk>, Request), Refused> {
         let request = read_request(sheet, self.number, self.tenancy(), self.disks())?;
-        let aged = self.disks.iter().map(|disk| disk.aged(request.age()));
-        Ok((aged.collect(), request))
+        Ok((self.table.disks(request.age()), request))
     }
 
     /// The plan sheet, if it fits the room.
@@ -83,7 +82,7 @@ impl Unit {
             return Err(NOT_RETURNED.nowhere());
         }
         self.rented = false;
-        self.disks.clear();
+        self.table = Table::default();
         Ok(())
     }
 }
@@ -190,6 +189,42 @@ mod tests {
         assert_eq!(unit.reason(&aged(100), 1, 1), Ok(Reason::Later(6)));
         assert_eq!(unit.reason(&aged(101), 1, 1), Ok(Reason::Later(6)));
         assert_eq!(unit, before);
+    }
+
+    /// One disk: cost 4, load 9, delay 6. By the sum it starts at 15, by the larger at 9, and at 6 once the load is below.
+    #[test]
+    fn the_rule_of_the_last_settings_holds() {
+        let mut unit = Unit::new(7);
+        let settings = |kind, tenancy| [kind, 7, tenancy, 1, 4, 9, 6];
+        let time = |unit: &Unit, tenancy, age| {
+            let plan = unit.request(&[4, 7, tenancy, age, 1, 1, 0], 99).unwrap();
+            plan[4]
+        };
+        unit.rent(5).unwrap();
+        unit.settings(&settings(5, 5)).unwrap();
+        assert_eq!(
+            [0, 2, 3, 4, 9, 10].map(|age| time(&unit, 5, age)),
+            [13, 11, 10, 10, 10, 10]
+        );
+        unit.settings(&settings(1, 5)).unwrap();
+        assert_eq!(
+            [0, 2, 3, 4, 9, 10].map(|age| time(&unit, 5, age)),
+            [19, 17, 16, 15, 10, 10]
+        );
+        unit.settings(&settings(5, 5)).unwrap();
+        assert_eq!(unit.settings(&settings(4, 5)), Err(KIND.at(0)));
+        assert_eq!(unit.settings(&settings(5, 6)), Err(OTHER_TENANCY.at(2)));
+        assert_eq!(unit.settings(&[1, 7, 5, 1, 4, 9]), Err(ENDS.at(6)));
+        assert_eq!(time(&unit, 5, 0), 13);
+        unit.give_back(5).unwrap();
+        let mut fresh = Unit::new(7);
+        for unit in [&mut unit, &mut fresh] {
+            assert_eq!(unit.settings(&settings(5, 5)), Err(OTHER_TENANCY.at(2)));
+            unit.rent(6).unwrap();
+        }
+        assert_eq!(unit, fresh);
+        unit.settings(&settings(1, 6)).unwrap();
+        assert_eq!(time(&unit, 6, 0), 19);
     }
 
     #[test]

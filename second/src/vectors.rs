@@ -1,7 +1,7 @@
 //! Runs a file of sheet vectors against the three readers.
 
 use crate::hex;
-use crate::model::{disks_of, Disk, Plan};
+use crate::model::{disks_of, Plan, Rule, Table};
 use crate::sheets::{read_plan, read_request, read_settings, Request};
 
 /// How many vectors hold, or the first that does not.
@@ -32,7 +32,7 @@ fn outcome(vector: &str) -> Option<String> {
         .collect::<Option<_>>()?;
     let result = match (kind, &numbers[..]) {
         ("settings", &[unit, tenancy]) => {
-            read_settings(&sheet, unit, tenancy).map(|disks| show_disks(&disks))
+            read_settings(&sheet, unit, tenancy).map(|table| show_table(&table))
         }
         ("request", &[unit, tenancy, disks]) => {
             read_request(&sheet, unit, tenancy, disks).map(|request| show_request(&request))
@@ -50,13 +50,14 @@ fn join<T: ToString>(list: &[T], by: &str) -> String {
         .join(by)
 }
 
-fn show_disks(disks: &[Disk]) -> String {
-    let mut words = vec![disks.len().to_string()];
-    words.extend(
-        disks
-            .iter()
-            .map(|disk| join(&[disk.cost, disk.load, disk.delay], ",")),
-    );
+fn show_table(table: &Table) -> String {
+    let mut words = Vec::new();
+    if table.rule == Rule::Larger {
+        words.push("larger".to_string());
+    }
+    words.push(table.rows.len().to_string());
+    let rows = table.rows.iter();
+    words.extend(rows.map(|row| join(&[row.cost, row.load, row.delay], ",")));
     words.join(" ")
 }
 

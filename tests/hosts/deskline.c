@@ -1,5 +1,5 @@
 /*
- * The three exported functions in text, a line out for each line in, in the format of the second
+ * The exported functions in text, a line out for each line in, in the format of the second
  * program's `desk` (second/README.md), a refusal as `refused N P`, so that both can be given the same lines:
  *   second compare desk COUNT SEED deskline
  * Lent buffers are filled with a5 and shown whole; a byte changed beside one adds the word `damaged`.
@@ -84,8 +84,8 @@ static void show_wrote(uint64_t answer, struct lent *out)
     show_lent(out);
 }
 
-/* ROOM UNIT TENANCY COSTS LOADS DELAYS */
-static bool settings(const struct span *words)
+/* ROOM UNIT TENANCY COSTS LOADS DELAYS, of the kind whose disks start at the sum, or at the larger */
+static bool settings(const struct span *words, bool larger)
 {
     uint32_t room, unit, tenancy;
     uint8_t *lists[3] = { NULL, NULL, NULL };
@@ -95,8 +95,8 @@ static bool settings(const struct span *words)
         && list_of(words[4], &lists[1], &lens[1]) && list_of(words[5], &lists[2], &lens[2]);
     if (good) {
         struct lent out = lend(room);
-        uint64_t answer = rp_write_settings(unit, tenancy, lists[0], lens[0], lists[1], lens[1],
-            lists[2], lens[2], out.at, out.len);
+        uint64_t answer = (larger ? rp_write_settings_overlap : rp_write_settings)(unit, tenancy, lists[0], lens[0],
+            lists[1], lens[1], lists[2], lens[2], out.at, out.len);
         show_wrote(answer, &out);
     }
     for (size_t i = 0; i < 3; i++)
@@ -172,8 +172,8 @@ static bool answer_line(struct span line)
 {
     struct span words[MOST_WORDS];
     size_t count = split(line, words);
-    if (count == 7 && is(words[0], "settings"))
-        return settings(words + 1);
+    if (count == 7 && (is(words[0], "settings") || is(words[0], "larger")))
+        return settings(words + 1, is(words[0], "larger"));
     if (count == 8 && is(words[0], "request"))
         return request(words + 1);
     if (count == 6 && is(words[0], "plan"))

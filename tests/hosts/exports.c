@@ -1,11 +1,11 @@
 /*
- * The three exported functions from C, with guards around every lent buffer. Each test is a line `ok NAME` or
+ * The exported functions from C, with guards around every lent buffer. Each test is a line `ok NAME` or
  * `FAILED NAME: why`, and the last line is `end of the tests`; the status is 1 if any failed.
  *
  * The bytes and numbers expected are document 01's samples, or follow from its ranges and from document 02 by hand. A
  * call is made three times, on buffers that stand: between guards, where every byte is held against what it has to be;
- * in blocks of memory of the exact length, where the address sanitizer and valgrind see a byte too far; and right before
- * a closed page, where a byte too far, read or written, ends the program.
+ * in blocks of memory of the exact length, where the address sanitizer and valgrind see a byte too far; and right
+ * before a closed page, where a byte too far, read or written, ends the program.
  */
 #define _DEFAULT_SOURCE
 #include <stdbool.h>
@@ -185,16 +185,23 @@ static void add_row(uint32_t cost, uint32_t load, uint32_t delay)
     add_wide(&delays, delay, 4);
 }
 
-/* One call on the rows as they stand; a null sheet is expected to be refused with this answer (6 alone has place 0). */
-static void settings(const char *name, uint32_t unit, uint32_t tenancy, size_t room, uint64_t refusal,
-    const struct list *sheet)
+/* The writers that take these three lists: they differ in the kind that they write, and in nothing else. */
+static const struct writer {
+    const char *name;
+    uint8_t kind;
+    uint64_t (*write)(uint32_t, uint32_t, const uint8_t *, size_t, const uint8_t *, size_t, const uint8_t *, size_t,
+        uint8_t *, size_t);
+} WRITERS[] = { { "", 1, rp_write_settings }, { "kind 5, ", 5, rp_write_settings_overlap } };
+
+/* One call of a writer on the rows as they stand. */
+static void settings_by(const struct writer *writer, const char *name, uint32_t unit, uint32_t tenancy, size_t room,
+    uint64_t refusal, const struct list *sheet)
 {
     struct lent c = lend_list(&costs), l = lend_list(&loads), d = lend_list(&delays), out = lend_room(room);
     uint64_t expected = sheet == NULL ? refusal : (uint64_t)sheet->len * 4294967296u;
     const char *why = NULL;
     for (int i = 0; i < PLACES; i++)
-        if (rp_write_settings(unit, tenancy, c.at[i], c.len, l.at[i], l.len, d.at[i], d.len, out.at[i], out.len)
-            != expected)
+        if (writer->write(unit, tenancy, c.at[i], c.len, l.at[i], l.len, d.at[i], d.len, out.at[i], out.len) != expected)
             why = "another answer";
     if (why == NULL && !(sheet == NULL ? is_unchanged(&out) : holds(&out, sheet->at, sheet->len)))
         why = "another buffer";
@@ -205,6 +212,25 @@ static void settings(const char *name, uint32_t unit, uint32_t tenancy, size_t r
     give_back(&l);
     give_back(&d);
     give_back(&out);
+}
+
+/*
+ * One call of each writer on the rows as they stand, for the sheet that it is with the writer's kind; a null sheet is
+ * expected to be refused with this answer (6 alone has place 0).
+ */
+static void settings(const char *name, uint32_t unit, uint32_t tenancy, size_t room, uint64_t refusal,
+    const struct list *sheet)
+{
+    static struct list of_kind;
+    char title[128];
+    for (size_t i = 0; i < sizeof WRITERS / sizeof WRITERS[0]; i++) {
+        if (sheet != NULL) {
+            of_kind = *sheet;
+            of_kind.at[0] = WRITERS[i].kind;
+        }
+        snprintf(title, sizeof title, "%s%s", WRITERS[i].name, name);
+        settings_by(&WRITERS[i], title, unit, tenancy, room, refusal, sheet == NULL ? NULL : &of_kind);
+    }
 }
 
 static void settings_sample(void)

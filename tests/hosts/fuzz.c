@@ -104,13 +104,13 @@ static const char WHYS[] = "rented\nset\nreason 1 0\nplan " PLAN "\nreason 2 10\
 /* Kinds of input: texts, the sheets themselves, and last calls and answers to them. */
 enum { TABLE, LIST, TEXT_SHEET, BYTE_SHEET, CALLS, WHY_CALLS, ANSWERS, KINDS };
 
-/* A sheet as bytes: settings, a request with or without an age, a plan. */
+/* A sheet as bytes: settings or a request, of the first kinds or of newer ones, or a plan. */
 static void add_bytes(struct bytes *into)
 {
     static uint8_t list[8 * RP_MOST_BLOCKS], out[RP_LONGEST_REQUEST];
     uint64_t which = chance(4), count = 1 + chance(which == 0 ? RP_MOST_DISKS : 40);
     uint64_t answer;
-    bool aged = chance(2) == 0;
+    bool newer = chance(2) == 0;
     if (which >= 2) {
         bytes_add(into, "\x03\x07\xAC\x02\x04\x09\x00\x00\x01\x01\x04\x00\x01\x02\x03", 15);
         return;
@@ -122,9 +122,10 @@ static void add_bytes(struct bytes *into)
             rp_put64(list, i, (uint64_t)1 << chance(6) | (uint64_t)1 << chance(6));
     }
     if (which == 0)
-        answer = rp_write_settings(7, 300, list, 4 * count, list, 4 * count, list, 4 * count, out, sizeof out);
+        answer = (newer ? rp_write_settings_overlap : rp_write_settings)(7, 300, list, 4 * count, list, 4 * count, list,
+            4 * count, out, sizeof out);
     else
-        answer = rp_write_request(aged ? RP_AGED_REQUEST : RP_REQUEST, 7, 300, aged ? (uint32_t)chance(1000) : 0, 6,
+        answer = rp_write_request(newer ? RP_AGED_REQUEST : RP_REQUEST, 7, 300, newer ? (uint32_t)chance(1000) : 0, 6,
             list, 8 * count, out, sizeof out);
     bytes_add(into, out, rp_length(answer));
 }
@@ -223,6 +224,8 @@ static const struct command {
     unsigned output;
 } COMMANDS[] = {
     { desk_main, { "desk", "settings", "7", "300", "in" }, TABLE, IS_SHEET },
+    { desk_main, { "desk", "settings", "7", "300", "in", "--start", "larger" }, TABLE, IS_SHEET },
+    { desk_main, { "desk", "settings", "7", "300", "in" }, BYTE_SHEET, IS_SHEET },
     { tenant_main, { "tenant", "request", "7", "300", "6", "in" }, LIST, IS_SHEET },
     { tenant_main, { "tenant", "request", "7", "300", "6", "in", "--age", "3600000000" }, LIST, IS_SHEET },
     { tenant_main, { "tenant", "request", "7", "300", "6", "in" }, BYTE_SHEET, IS_SHEET },
@@ -237,6 +240,8 @@ static const struct command {
         IS_JSON },
     { tenant_main, { "tenant", "plan", "7", "300", "plan", "--disks", "in", "--age", "0", "--svg", "picture" }, TABLE,
         IS_TEXT },
+    { tenant_main, { "tenant", "plan", "7", "300", "plan", "--disks", "in", "--start", "larger", "--svg", "picture" },
+        TABLE, IS_TEXT },
     { tenant_main, { "tenant", "plan", "7", "300", "in", "--disks", "table", "--request", "list", "--svg", "picture" },
         TEXT_SHEET, IS_TEXT },
     { tenant_main, { "tenant", "why", "7", "300", "in", "--calls", "whysent" }, ANSWERS, IS_TEXT },

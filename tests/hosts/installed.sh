@@ -91,8 +91,11 @@ done >"$OUT/log"
 [ ! -s "$OUT/log" ]
 passed 'install: every file' $? "$OUT/log"
 nm -g --defined-only "$prefix/lib/librippleplank.a" 2>/dev/null | sed -n 's/.* T //p' | sort >"$OUT/log"
-printf 'rp_read_plan\nrp_version\nrp_write_request\nrp_write_settings\n' | cmp -s - "$OUT/log"
-passed 'install: the library exports the three functions and its version' $? "$OUT/log"
+printf '%s\n' $exported rp_version | sort | cmp -s - "$OUT/log"
+passed 'install: the library exports the functions and its version' $? "$OUT/log"
+for name in $exported rp_version; do [ -e "$prefix/share/man/man3/$name.3" ] || echo "there is no page $name"; done >"$OUT/log"
+[ ! -s "$OUT/log" ]
+passed 'install: a page under the name of each function' $? "$OUT/log"
 [ "$("$prefix/bin/desk" --version)" = "desk of Rippleplank $(sed -n 's/^#define RP_VERSION "\(.*\)"/\1/p' include/rippleplank.h), library $(
     sed -n 's/^Version: //p' "$prefix/lib/pkgconfig/rippleplank.pc")" ]
 passed 'install: one version in program, header, library and pkg-config file' $?

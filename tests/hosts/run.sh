@@ -82,8 +82,9 @@ else
 fi
 
 nm -g --defined-only "$LIB" 2>/dev/null | sed -n 's/.* T //p' | sort >"$OUT/log"
-printf 'rp_read_plan\nrp_write_request\nrp_write_settings\n' | cmp -s - "$OUT/log"
-passed 'library: exports exactly three functions' $? "$OUT/log"
+exported='rp_read_plan rp_write_request rp_write_settings rp_write_settings_overlap'
+printf '%s\n' $exported | cmp -s - "$OUT/log"
+passed 'library: exports exactly the functions of the header' $? "$OUT/log"
 
 $CXX -std=c++11 $strict -Iinclude "$here/header.cpp" "$OUT/librippleplank.a" $sanitize -o "$OUT/header" >"$OUT/log" 2>&1 \
     && "$OUT/header" >>"$OUT/log" 2>&1
@@ -146,14 +147,15 @@ if [ "$SHELF" != none ]; then
             printf "%d,%d,%d\n", 1 + int(6 * rand()), int(4 * rand()), int(4 * rand()) }' >"$OUT/table"
         awk -v seed="$seed" 'BEGIN { srand(seed); for (b = 0; b < 2 + seed % 6; b++) print int(4 * rand()), int(4 * rand()), int(4 * rand()) }' \
             | awk '{ split("", on); line = ""; for (i = 1; i <= 3; i++) if (!on[$i]++) line = line " " $i; print line }' >"$OUT/list"
-        # of some the loads are taken at an age, which may be above all of them
+        # of some the loads are taken at an age, which may be above all of them, and of some the wait overlaps the queue
         age=$([ $((seed % 3)) -eq 0 ] || echo "--age $((seed % 5))")
+        start=$([ $((seed % 2)) -eq 0 ] || echo '--start larger')
         # shellcheck disable=SC2086
-        "$OUT/desk" settings 7 300 "$OUT/table" -o "$OUT/settings" && "$OUT/tenant" request 7 300 4 "$OUT/list" $age -o "$OUT/request" \
+        "$OUT/desk" settings 7 300 "$OUT/table" $start -o "$OUT/settings" && "$OUT/tenant" request 7 300 4 "$OUT/list" $age -o "$OUT/request" \
             && "$OUT/stream" -o "$OUT/calls" 7 rent 300 settings "$OUT/settings" request 2964 "$OUT/request" why each each "$OUT/request" \
                 why 0 0 "$OUT/request" why 0 1 "$OUT/request" why 0 2 "$OUT/request" why 0 3 "$OUT/request" \
             && $SHELF <"$OUT/calls" >"$OUT/answers" && "$OUT/tenant" why 7 300 "$OUT/answers" --calls "$OUT/calls" --json >"$OUT/lines" \
-            && "$OUT/tenant" plan 7 300 "$OUT/answers" --disks "$OUT/table" --request "$OUT/list" $age >/dev/null \
+            && "$OUT/tenant" plan 7 300 "$OUT/answers" --disks "$OUT/table" --request "$OUT/list" $start $age >/dev/null \
             || echo "seed $seed: status $?" >>"$OUT/log"
         tr '{' '\n' <"$OUT/lines" | sed -n 's/.*"reason":\([1-5]\).*/\1/p' >>"$OUT/reasons"
         # each copy in turn has the shelf's line; the four that follow are the first block's again

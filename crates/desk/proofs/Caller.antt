@@ -25,6 +25,7 @@ use Rattle.field.specs.Send.{Draft, sheet, none, answerTo}
 use Rattle.field.specs.Sheet.{Note, note, Out, got, refused}
 use Rattle.field.proofs.Known.{Known, Answers}
 use Rattle.basics.specs.Lists.{All}
+use Rattle.model.specs.declared.Rule.{Rule}
 use Rattle.settings.specs.Draft.{settingsDraft}
 use Rattle.request.specs.Draft.{requestDraft}
 use Rattle.plan.specs.Plan.{Plan, planSheet}
@@ -250,14 +251,14 @@ unfolding broken
 whole-spell w xs = le-ltb 0 (length (spellAll (bytesOf w) xs) % w)
     (omega (arith, ap (λ (k : ℕ). k % w) (spell-length w xs), mul-mod-right w (length xs)))
 
-pub settings-of-numbers : (unit t : ℕ) (cs ls ds : List ℕ) → All (λ (x : ℕ). x < 256 ^ 4) cs → All (λ (x : ℕ). x < 256 ^ 4) ls
+pub settings-of-numbers : (r : Rule) (unit t : ℕ) (cs ls ds : List ℕ) → All (λ (x : ℕ). x < 256 ^ 4) cs → All (λ (x : ℕ). x < 256 ^ 4) ls
     → All (λ (x : ℕ). x < 256 ^ 4) ds
-    → settingsDraftOfBytes unit t (spellAll (bytesOf 4) cs) (spellAll (bytesOf 4) ls) (spellAll (bytesOf 4) ds)
-    ≡ settingsDraft unit t cs ls ds
+    → settingsDraftOfBytes r unit t (spellAll (bytesOf 4) cs) (spellAll (bytesOf 4) ls) (spellAll (bytesOf 4) ds)
+    ≡ settingsDraft r unit t cs ls ds
 unfolding settingsDraftOfBytes
-settings-of-numbers unit t cs ls ds p q r =
+settings-of-numbers r unit t cs ls ds c l d =
     pick-false _ _ (rw (whole-spell 4 cs, whole-spell 4 ls, whole-spell 4 ds))
-    ∙ rw (numbers-spell 4 cs (lit< tt) p, numbers-spell 4 ls (lit< tt) q, numbers-spell 4 ds (lit< tt) r)
+    ∙ rw (numbers-spell 4 cs (lit< tt) c, numbers-spell 4 ls (lit< tt) l, numbers-spell 4 ds (lit< tt) d)
 
 pub request-of-numbers : (k unit t a n : ℕ) (ms : List ℕ) → All (λ (x : ℕ). x < 256 ^ 8) ms
     → requestDraftOfBytes k unit t a n (spellAll (bytesOf 8) ms) ≡ requestDraft k unit t a n ms

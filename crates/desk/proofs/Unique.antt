@@ -5,7 +5,7 @@ use Prim.Native.Nat.{ℕ}
 use Rattle.field.specs.Send.{Draft}
 use Rattle.desk.specs.Desk.{Exported, PlanRead}
 
--- both writers
+-- every writer
 pub exported-unique : (d : Draft) (out : List ℕ) (a b : ℕ) (x y : List ℕ) → Exported d out a x → Exported d out b y → (a ≡ b) × (x ≡ y)
 exported-unique d out a b x y p q = (p .answer ∙ sym (q .answer), p .held ∙ sym (q .held))
 

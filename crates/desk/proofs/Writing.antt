@@ -1,11 +1,11 @@
--- Laws of the two writers.
+-- Laws of the writers: settings by a start rule, and requests.
 --     exported-refused, exported-sent     a refusal before the sheet's writer, and what that writer did
 --     Plain, Answerable             what a writer may answer: a refusal without a place, or a length of 32 bits
 --     short-sent                    so its length and its place have room in their bits
 --     costs-unusable, loads-unusable, delays-unusable         lists that are broken or too long are 6
 --     tenancy-broken, tenancy-whole     the tenancy that the request's writer takes
 --     request-few, request-whole, request-refused, request-unplaced     what was judged of a request's fields before the blocks
---     settings-drafted, request-drafted     every draft of the two writers is answerable
+--     settings-drafted, request-drafted     every draft is answerable
 use mathlib.Core.Path.{_≡_, refl, sym, ap, _∙_, subst}
 use mathlib.Core.Bool.{Bool, true, false, _||_}
 use mathlib.Core.Logic.{⊎-elim}
@@ -27,6 +27,7 @@ use Rattle.field.specs.Send.{Draft, sheet, none, toldWritten, answerTo, leftBy,
 use Rattle.field.specs.Sheet.{Note, got, refused, unplaced}
 use Rattle.field.proofs.Known.{Known, Own, own-six, own-fifteen}
 use Rattle.field.proofs.Sends.{sent-bytes, sent-not}
+use Rattle.model.specs.declared.Rule.{Rule}
 use Rattle.settings.specs.Draft.{settingsDraft}
 use Rattle.settings.proofs.Longest.{longest-written as longest-settings}
 use Rattle.settings.proofs.Writing.{ListsFit, lists-fit, unfit-lists, draft-sheet}
@@ -54,9 +55,9 @@ exported-sent {d} {e} {out} {w} {r} {after} q s a = record {
 }
 
 -- the same lists
-pub settings-sent : (unit t : ℕ) {cs ls ds cs′ ls′ ds′ out : List ℕ} {w : Written} {after : List ℕ} → cs′ ≡ cs → ls′ ≡ ls → ds′ ≡ ds
-    → Sent (settingsDraft unit t cs′ ls′ ds′) out w after → Sent (settingsDraft unit t cs ls ds) out w after
-settings-sent unit t p q r s = rw (sym p, sym q, sym r) s
+pub settings-sent : (r : Rule) (unit t : ℕ) {cs ls ds cs′ ls′ ds′ out : List ℕ} {w : Written} {after : List ℕ} → cs′ ≡ cs → ls′ ≡ ls
+    → ds′ ≡ ds → Sent (settingsDraft r unit t cs′ ls′ ds′) out w after → Sent (settingsDraft r unit t cs ls ds) out w after
+settings-sent r unit t c l d s = rw (sym c, sym l, sym d) s
 
 -- ---- a length and a place have room in their bits
 
@@ -86,27 +87,27 @@ plain o = record { known = o .0; other = o .1; nowhere = refl }
 
 -- ---- lists of costs, loads and delays
 
-module _ (unit t : ℕ) (costs loads delays : List ℕ) where
+module _ (r : Rule) (unit t : ℕ) (costs loads delays : List ℕ) where
   settings-broken : (broken 4 costs || (broken 4 loads || broken 4 delays)) ≡ true
-      → settingsDraftOfBytes unit t costs loads delays ≡ none (unplaced 6)
+      → settingsDraftOfBytes r unit t costs loads delays ≡ none (unplaced 6)
   unfolding settingsDraftOfBytes
   settings-broken h = pick-true _ _ h
 
   settings-long : (ListsFit t (numbers 4 costs) (numbers 4 loads) (numbers 4 delays) → ⊥)
-      → settingsDraftOfBytes unit t costs loads delays ≡ none (unplaced 6)
+      → settingsDraftOfBytes r unit t costs loads delays ≡ none (unplaced 6)
   unfolding settingsDraftOfBytes settingsDraft
   settings-long f =
       pick-elim (λ (d : Draft). d ≡ none (unplaced 6)) _ _ _ (λ _. refl)
       (λ _. pick-false _ _ (sym (unfit-lists f)))
 
-  pub costs-unusable : usable 4 disksMost costs ≡ false → settingsDraftOfBytes unit t costs loads delays ≡ none (unplaced 6)
+  pub costs-unusable : usable 4 disksMost costs ≡ false → settingsDraftOfBytes r unit t costs loads delays ≡ none (unplaced 6)
   costs-unusable h =
       ⊎-elim (λ b. settings-broken (ap (λ (x : Bool). x || (broken 4 loads || broken 4 delays)) b))
       (λ l. settings-long (λ w. omega (arith, w .few)))
       (not-usable 4 disksMost costs h)
 
   pub loads-unusable : usable 4 disksMost costs ≡ true → usable 4 disksMost loads ≡ false
-      → settingsDraftOfBytes unit t costs loads delays ≡ none (unplaced 6)
+      → settingsDraftOfBytes r unit t costs loads delays ≡ none (unplaced 6)
   loads-unusable c h =
       ⊎-elim (λ b. settings-broken (ap (λ (x : Bool). x || (broken 4 loads || broken 4 delays)) (is-usable 4 disksMost costs c .0)
       ∙ ap (λ (x : Bool). x || broken 4 delays) b))
@@ -114,7 +115,7 @@ module _ (unit t : ℕ) (costs loads delays : List ℕ) where
       (not-usable 4 disksMost loads h)
 
   pub delays-unusable : usable 4 disksMost costs ≡ true → usable 4 disksMost loads ≡ true → usable 4 disksMost delays ≡ false
-      → settingsDraftOfBytes unit t costs loads delays ≡ none (unplaced 6)
+      → settingsDraftOfBytes r unit t costs loads delays ≡ none (unplaced 6)
   delays-unusable c l h =
       ⊎-elim (λ b. settings-broken (ap (λ (x : Bool). x || (broken 4 loads || broken 4 delays)) (is-usable 4 disksMost costs c .0)
       ∙ ap (λ (x : Bool). x || broken 4 delays) (is-usable 4 disksMost loads l .0) ∙ b))
@@ -122,21 +123,21 @@ module _ (unit t : ℕ) (costs loads delays : List ℕ) where
       (not-usable 4 disksMost delays h)
 
   pub settings-usable : usable 4 disksMost costs ≡ true → usable 4 disksMost loads ≡ true → usable 4 disksMost delays ≡ true
-      → settingsDraftOfBytes unit t costs loads delays ≡ settingsDraft unit t (numbers 4 costs) (numbers 4 loads) (numbers 4 delays)
+      → settingsDraftOfBytes r unit t costs loads delays ≡ settingsDraft r unit t (numbers 4 costs) (numbers 4 loads) (numbers 4 delays)
   unfolding settingsDraftOfBytes
   settings-usable c l d =
       pick-false _ _ (ap (λ (x : Bool). x || (broken 4 loads || broken 4 delays)) (is-usable 4 disksMost costs c .0)
       ∙ ap (λ (x : Bool). x || broken 4 delays) (is-usable 4 disksMost loads l .0) ∙ is-usable 4 disksMost delays d .0)
 
--- document 01's longest settings sheet has 652 bytes
-settings-short : (unit t : ℕ) (cs ls ds bs : List ℕ) → settingsDraft unit t cs ls ds ≡ sheet bs → length bs < lengths
-settings-short unit t cs ls ds bs h = omega (arith, longest-settings unit t cs ls ds bs h)
+-- the longest settings sheet has 652 bytes by either rule
+settings-short : (r : Rule) (unit t : ℕ) (cs ls ds bs : List ℕ) → settingsDraft r unit t cs ls ds ≡ sheet bs → length bs < lengths
+settings-short r unit t cs ls ds bs h = omega (arith, longest-settings r unit t cs ls ds bs h)
 
-pub settings-drafted : (unit t : ℕ) (cs ls ds : List ℕ) → Answerable (settingsDraft unit t cs ls ds)
+pub settings-drafted : (r : Rule) (unit t : ℕ) (cs ls ds : List ℕ) → Answerable (settingsDraft r unit t cs ls ds)
 unfolding settingsDraft Answerable
-settings-drafted unit t cs ls ds =
+settings-drafted r unit t cs ls ds =
     pick-elim Answerable _ _ _
-    (λ f. pick-elim Answerable _ _ _ (λ g. settings-short unit t cs ls ds _ (draft-sheet unit t cs ls ds (lists-fit f) g .is))
+    (λ f. pick-elim Answerable _ _ _ (λ g. settings-short r unit t cs ls ds _ (draft-sheet r unit t cs ls ds (lists-fit f) g .is))
     (λ _. plain own-fifteen))
     (λ _. plain own-six)
 
@@ -165,9 +166,10 @@ module _ (t : ℕ) (copies : List ℕ) where
 
 -- ---- of bytes
 
-pub settings-answerable : (unit t : ℕ) (costs loads delays : List ℕ) → Answerable (settingsDraftOfBytes unit t costs loads delays)
+pub settings-answerable : (r : Rule) (unit t : ℕ) (costs loads delays : List ℕ)
+    → Answerable (settingsDraftOfBytes r unit t costs loads delays)
 unfolding settingsDraftOfBytes Answerable
-settings-answerable unit t costs loads delays = pick-elim Answerable _ _ _ (λ _. plain own-six) (λ _. settings-drafted unit t _ _ _)
+settings-answerable r unit t costs loads delays = pick-elim Answerable _ _ _ (λ _. plain own-six) (λ _. settings-drafted r unit t _ _ _)
 
 pub request-answerable : (k unit t a n : ℕ) (copies : List ℕ) → Answerable (requestDraftOfBytes k unit t a n copies)
 unfolding requestDraftOfBytes

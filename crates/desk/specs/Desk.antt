@@ -1,4 +1,4 @@
--- The promises of the three exported functions.
+-- The promises of the exported functions.
 --     settingsDraftOfBytes, requestDraftOfBytes     the sheet of lists of bytes, or why there is none
 --     tenancyWith       the tenancy of a request whose list is whole, else 0
 --     Exported          a writer's answer, and the buffer afterwards
@@ -13,6 +13,7 @@ use Rattle.basics.specs.Choice.{pick}
 use Rattle.field.specs.Put.{spellAll}
 use Rattle.field.specs.Send.{Draft, none, answerTo, leftBy}
 use Rattle.field.specs.Sheet.{Out, got, refused, unplaced}
+use Rattle.model.specs.declared.Rule.{Rule}
 use Rattle.settings.specs.Draft.{settingsDraft}
 use Rattle.request.specs.Draft.{requestDraft}
 use Rattle.plan.specs.Plan.{Plan, planSheet}
@@ -22,10 +23,10 @@ use Rattle.lent.specs.Numbers.{bytesOf, numbers, broken}
 use Rattle.lent.specs.Packed.{writerAnswer, readerAnswer}
 
 -- the settings sheet of four-byte numbers; a list broken inside a number is 6 before the rest
-unfoldable pub settingsDraftOfBytes : ℕ → ℕ → List ℕ → List ℕ → List ℕ → Draft
-settingsDraftOfBytes unit t costs loads delays =
+unfoldable pub settingsDraftOfBytes : Rule → ℕ → ℕ → List ℕ → List ℕ → List ℕ → Draft
+settingsDraftOfBytes r unit t costs loads delays =
     pick (broken 4 costs || (broken 4 loads || broken 4 delays)) (none (unplaced 6))
-    (settingsDraft unit t (numbers 4 costs) (numbers 4 loads) (numbers 4 delays))
+    (settingsDraft r unit t (numbers 4 costs) (numbers 4 loads) (numbers 4 delays))
 
 -- a list broken inside a number is refused as tenancy 0 is: with 6, after the kind and before the rest
 unfoldable pub tenancyWith : ℕ → List ℕ → ℕ

@@ -5,18 +5,21 @@ use field::Fault;
 use field::Refusal;
 use field::Verdict;
 use field::Written;
+use model::Rule;
 use plan::Answer;
 ghost use mathlib.Core.Path.{_≡_};
 ghost use Prim.Native.Nat.{_/_, _≤_};
 ghost use lib.ListN.{length};
 ghost use Rattle.basics.specs.Limits.{disksMost};
 ghost use Rattle.field.specs.Send.{Sent};
+ghost use Rattle.model.specs.declared.Rule.the-variants.{Sum, Larger};
 ghost use Rattle.settings.specs.Draft.{settingsDraft};
 ghost use Rattle.lent.specs.Numbers.{numbers};
 ghost use Rattle.desk.specs.Desk.{settingsDraftOfBytes, tenancyWith, requestDraftOfBytes, Exported, PlanRead};
 
 // Writes the settings sheet of lists that are whole and not too long.
 fn send_settings(
+    rule: Rule,
     unit: u32,
     tenancy: u32,
     costs: &[u8],
@@ -26,7 +29,8 @@ fn send_settings(
 ) -> Written
     requires { ⌜ (length (now costs) / 4 ≤ disksMost) × (length (now loads) / 4 ≤ disksMost) × (length (now delays) / 4 ≤ disksMost) ⌝ }
     ensures { λ r. ⌜ Sent
-        (settingsDraft unit tenancy (numbers 4 (now (costs .entry))) (numbers 4 (now (loads .entry))) (numbers 4 (now (delays .entry))))
+        (settingsDraft rule unit tenancy (numbers 4 (now (costs .entry))) (numbers 4 (now (loads .entry)))
+        (numbers 4 (now (delays .entry))))
         (now (out .entry)) r (now (out .exit)) ⌝ }
 {
     let c = lent::fours(costs);
@@ -35,12 +39,12 @@ fn send_settings(
     let disks = costs.len() / 4;
     let k = loads.len() / 4;
     let n = delays.len() / 4;
-    settings::write(unit, tenancy, &c[..disks], &l[..k], &d[..n], out)
+    settings::write(rule, unit, tenancy, &c[..disks], &l[..k], &d[..n], out)
 }
 
-// Writes a settings sheet: four bytes for each cost, load and delay.
-#[no_mangle]
-pub extern "C" fn rp_write_settings(
+// Writes a settings sheet of a start rule: four bytes for each cost, load and delay.
+fn write_settings(
+    rule: Rule,
     unit: u32,
     tenancy: u32,
     costs: &[u8],
@@ -48,7 +52,7 @@ pub extern "C" fn rp_write_settings(
     delays: &[u8],
     out: &mut [u8],
 ) -> u64
-    ensures { λ r. ⌜ Exported (settingsDraftOfBytes unit tenancy (now (costs .entry)) (now (loads .entry)) (now (delays .entry)))
+    ensures { λ r. ⌜ Exported (settingsDraftOfBytes rule unit tenancy (now (costs .entry)) (now (loads .entry)) (now (delays .entry)))
         (now (out .entry)) r (now (out .exit)) ⌝ }
 {
     if !lent::usable(costs, 4, DISKS) {
@@ -69,7 +73,39 @@ pub extern "C" fn rp_write_settings(
             place: 0,
         });
     }
-    lent::pack_written(send_settings(unit, tenancy, costs, loads, delays, out))
+    lent::pack_written(send_settings(rule, unit, tenancy, costs, loads, delays, out))
+}
+
+// Writes a settings sheet of kind 1: every disk starts at the sum of its delay and load.
+#[no_mangle]
+pub extern "C" fn rp_write_settings(
+    unit: u32,
+    tenancy: u32,
+    costs: &[u8],
+    loads: &[u8],
+    delays: &[u8],
+    out: &mut [u8],
+) -> u64
+    ensures { λ r. ⌜ Exported (settingsDraftOfBytes Sum unit tenancy (now (costs .entry)) (now (loads .entry)) (now (delays .entry)))
+        (now (out .entry)) r (now (out .exit)) ⌝ }
+{
+    write_settings(Rule::Sum, unit, tenancy, costs, loads, delays, out)
+}
+
+// Writes a settings sheet of kind 5: every disk starts at the larger of its delay and load.
+#[no_mangle]
+pub extern "C" fn rp_write_settings_overlap(
+    unit: u32,
+    tenancy: u32,
+    costs: &[u8],
+    loads: &[u8],
+    delays: &[u8],
+    out: &mut [u8],
+) -> u64
+    ensures { λ r. ⌜ Exported (settingsDraftOfBytes Larger unit tenancy (now (costs .entry)) (now (loads .entry)) (now (delays .entry)))
+        (now (out .entry)) r (now (out .exit)) ⌝ }
+{
+    write_settings(Rule::Larger, unit, tenancy, costs, loads, delays, out)
 }
 
 // The tenancy that a writer takes: 0, with which it refuses, where a list ends inside a number.

@@ -4,11 +4,16 @@
 --     capacity-grows                    a later time has no smaller capacity (001, Lemma 5.3)
 --     endTime-idle, endTime-is          the two cases of the end time
 --     capacity-at-end, capacity-before-end    at the end of b blocks it is b, one microsecond sooner b - 1
+--     start-most, start-mono            a start is at most delay and load together; neither makes it sooner by being longer
+--     endBy-idle, endBy-is, capacityBy-before, capacityBy-after, capacityBy-law, capacityBy-grows,
+--     capacityBy-at-end, capacityBy-before-end     all of this by the start rule
+--     base-end, base-capacity           where disks have costs, loads and delays, these are their ends and capacities
 --     response-law                      a schedule is in time exactly if every disk's blocks are within its capacity
 --                                       (001, Lemma 5.2, for one schedule)
 use Prim.Native.Nat.{ℕ, zero, suc, _+_, _-_, _*_, _/_, _≤_, _<_}
 use mathlib.Core.Path.{_≡_, refl, sym, subst, _∙_}
 use mathlib.Core.Logic.{_↔_}
+use mathlib.Core.Bool.{Bool}
 use native.Mathlib.Nat.{le-div-iff-mul-le, le-refl, le-antisymm, le-trans}
 use native.Mathlib.Omega.{arith}
 use lib.Dec.{ltb}
@@ -16,7 +21,9 @@ use borrow.Author.Tests.{ltb-true, ltb-false, lt-ltb, le-ltb}
 use Rattle.model.specs.Assignment.{reads, Within}
 use Rattle.model.specs.Capacity.{endTime, capacity}
 use Rattle.basics.specs.Choice.{pick}
-use Rattle.model.specs.Case.{Case, Priced, endOf, response, capacityAt}
+use Rattle.model.specs.declared.Rule.{Rule}
+use Rattle.model.specs.declared.Rule.the-variants.{Sum, Larger}
+use Rattle.model.specs.Case.{Case, Priced, endOf, response, capacityAt, starting, endBy, capacityBy, base}
 use Rattle.basics.proofs.Tests.{by-cases}
 use Rattle.basics.proofs.Count.{latest-term, latest-le}
 
@@ -96,6 +103,61 @@ pub capacity-before-end : (s c b : ℕ) → 0 < c → 1 ≤ b → capacity s c (
 capacity-before-end s c zero p h = let z : ⊥ = omega arith in absurd z
 capacity-before-end s c (suc b) p h =
     subst (λ (x : ℕ). capacity s c (x - 1) ≡ b) (endTime-is s c (suc b) h) (capacity-sooner s c b p) ∙ omega arith
+
+-- ---- by the start rule
+
+pub start-most : (r : Rule) (delay load : ℕ) → starting r delay load ≤ delay + load
+unfolding starting
+start-most Sum delay load = omega arith
+start-most Larger delay load = omega arith
+
+pub start-mono : (r : Rule) (delay delay′ load load′ : ℕ) → delay ≤ delay′ → load ≤ load′ → starting r delay load ≤ starting r delay′ load′
+unfolding starting
+start-mono Sum delay delay′ load load′ h k = omega arith
+start-mono Larger delay delay′ load load′ h k = omega arith
+
+module _ (r : Rule) (delay load cost : ℕ) where
+  pub endBy-idle : endBy r delay load cost 0 ≡ 0
+  unfolding endBy
+  endBy-idle = endTime-idle (starting r delay load) cost
+
+  pub endBy-is : (b : ℕ) → 1 ≤ b → endBy r delay load cost b ≡ starting r delay load + b * cost
+  unfolding endBy
+  endBy-is b h = endTime-is (starting r delay load) cost b h
+
+  pub capacityBy-before : (t : ℕ) → t < starting r delay load → capacityBy r delay load cost t ≡ 0
+  unfolding capacityBy
+  capacityBy-before t h = capacity-before (starting r delay load) cost t h
+
+  pub capacityBy-after : (t : ℕ) → starting r delay load ≤ t → capacityBy r delay load cost t ≡ (t - starting r delay load) / cost
+  unfolding capacityBy
+  capacityBy-after t h = capacity-after (starting r delay load) cost t h
+
+  module _ (p : 0 < cost) where
+    pub capacityBy-law : (b t : ℕ) → (b ≤ capacityBy r delay load cost t) ↔ (endBy r delay load cost b ≤ t)
+    unfolding endBy capacityBy
+    capacityBy-law b t = capacity-law (starting r delay load) cost b t p
+
+    pub capacityBy-grows : (t u : ℕ) → t ≤ u → capacityBy r delay load cost t ≤ capacityBy r delay load cost u
+    unfolding capacityBy
+    capacityBy-grows t u h = capacity-grows (starting r delay load) cost t u p h
+
+    pub capacityBy-at-end : (b : ℕ) → 1 ≤ b → capacityBy r delay load cost (starting r delay load + b * cost) ≡ b
+    unfolding capacityBy
+    capacityBy-at-end b h = capacity-at-end (starting r delay load) cost b p h
+
+    pub capacityBy-before-end : (b : ℕ) → 1 ≤ b → capacityBy r delay load cost (starting r delay load + b * cost - 1) ≡ b - 1
+    unfolding capacityBy
+    capacityBy-before-end b h = capacity-before-end (starting r delay load) cost b p h
+
+module _ (r : Rule) (n q : ℕ) (cost load delay : ℕ → ℕ) (copy : ℕ → ℕ → Bool) (d : ℕ) where
+  pub base-end : (a : ℕ → ℕ) → endOf (base r n q cost load delay copy) a d ≡ endBy r (delay d) (load d) (cost d) (reads q a d)
+  unfolding base endOf endBy
+  base-end a = refl
+
+  pub base-capacity : (t : ℕ) → capacityAt (base r n q cost load delay copy) t d ≡ capacityBy r (delay d) (load d) (cost d) t
+  unfolding base capacityAt capacityBy
+  base-capacity t = refl
 
 -- ---- a schedule's time
 

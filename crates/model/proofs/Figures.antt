@@ -1,4 +1,4 @@
--- The table P1 to P12 holds: a test of a row by brute force over all schedules and all sets,
+-- The table P1 to P17 holds: a test of a row by brute force over all schedules and all sets,
 -- one law from the test to the facts, and one computation.
 --     all, imp       a test on every number below a bound; one test implies another
 --     every          a test on every choice of q values from a list
@@ -18,7 +18,7 @@ use Rattle.basics.specs.Count.{bit, gate, sum, count, any, latest}
 use Rattle.model.specs.Assignment.{reads, Valid}
 use Rattle.model.specs.Capacity.{endTime, capacity}
 use Rattle.basics.specs.Choice.{pick}
-use Rattle.model.specs.Case.{Case, left, base, Schedule, endOf, response, HasTime, capacityAt}
+use Rattle.model.specs.Case.{Case, left, starting, base, Schedule, endOf, response, HasTime, capacityAt}
 use Rattle.model.specs.Shortfall.{touches, size, room, Sub, NoShorter, Greatest}
 use Rattle.model.specs.Order.{Agree, Before}
 use Rattle.model.specs.Plan.{Optimal}
@@ -292,23 +292,23 @@ same-law (x ∷ k) (y ∷ l) e =
     ap₂ (λ (i : ℕ) (j : List ℕ). i ∷ j) (eqb-true x y (and-left (eqb x y) (same k l) e)) (same-law k l (and-right (eqb x y) (same k l) e))
 
 right : Figure → Bool
-right (request age copies R disks short) =
-    planned (asked age copies) R (λ b. getD disks b 0) (listed short)
+right (request u age copies R disks short) =
+    planned (asked u age copies) R (λ b. getD disks b 0) (listed short)
     && (eqb (length disks) (length copies) && eqb (length short) (size (length copies) (listed short)))
-right (capacities d times values) = same (map (λ t. capacityAt (asked 0 []) t d) times) values
+right (capacities u d times values) = same (map (λ t. capacityAt (asked u 0 []) t d) times) values
 
 right-law : (f : Figure) → right f ≡ true → Holds f
 unfolding right Holds
-right-law (request age copies R disks short) e =
-    let p : Bool = planned (asked age copies) R (λ b. getD disks b 0) (listed short) in
+right-law (request u age copies R disks short) e =
+    let p : Bool = planned (asked u age copies) R (λ b. getD disks b 0) (listed short) in
     let l : Bool = eqb (length disks) (length copies) in
     let k : Bool = eqb (length short) (size (length copies) (listed short)) in
     record {
-      plan = planned-law (asked age copies) R (λ b. getD disks b 0) (listed short) (and-left p (l && k) e);
+      plan = planned-law (asked u age copies) R (λ b. getD disks b 0) (listed short) (and-left p (l && k) e);
       every-block = eqb-true (length disks) (length copies) (and-left l k (and-right p (l && k) e));
       no-other = eqb-true (length short) (size (length copies) (listed short)) (and-right l k (and-right p (l && k) e));
     }
-right-law (capacities d times values) e = same-law (map (λ t. capacityAt (asked 0 []) t d) times) values e
+right-law (capacities u d times values) e = same-law (map (λ t. capacityAt (asked u 0 []) t d) times) values e
 
 all-right : List Figure → Bool
 all-right [] = true
@@ -322,5 +322,5 @@ figures-law (f ∷ fs) e = (right-law f (and-left (right f) (all-right fs) e), f
 pub figures : AllHold table
 unfolding
     table all-right right planned schedule? schedules? sets? slower? wider? room? before? all imp each every upto same put
-    listed asked left base capacityAt capacity pick endTime response endOf reads size room touches bit gate sum count any latest
+    listed asked left starting base capacityAt capacity pick endTime response endOf reads size room touches bit gate sum count any latest
 figures = figures-law table refl

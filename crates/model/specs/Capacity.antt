@@ -1,4 +1,5 @@
--- One disk: when it ends, and how many blocks it can read by a time. Its start is delay plus load; its cost is for one block.
+-- One disk: when it ends, and how many blocks it can read by a time. Its start is what the start rule makes of delay and load; its cost is
+-- for one block.
 use Prim.Native.Nat.{ℕ, zero, suc, _+_, _-_, _*_, _/_}
 use lib.Dec.{ltb}
 use Rattle.basics.specs.Choice.{pick}

@@ -3,18 +3,22 @@
 -- ACM Transactions on Storage 9, 2, Article 5 (2013).
 --     Case             disks, blocks, each disk's start and cost, and which disk holds a copy of which block
 --     left             what is left of a load after some time
---     starting, base   when a disk starts; the base: disks by their costs, loads and delays
+--     starting         when a disk starts, by the start rule
+--     endBy, capacityBy     when it ends, and how many blocks it can read by a time, by the rule
+--     base             disks by their costs, loads and delays
 --     Priced, Held     every cost is at least 1; every block has a copy on some disk
 --     Schedule         each block on one disk that holds a copy of it
 --     response         a schedule's time
 --     HasTime          the schedules of time t
 --     capacityAt       each disk's capacity at a time
-use Prim.Native.Nat.{ℕ, _+_, _-_, _<_}
+use Prim.Native.Nat.{ℕ, _+_, _-_, _<_, max}
 use mathlib.Core.Path.{_≡_}
 use mathlib.Core.Bool.{Bool, true}
 use lib.Dec.{ltb}
 use Rattle.basics.specs.Choice.{pick}
 use Rattle.basics.specs.Count.{latest}
+use Rattle.model.specs.declared.Rule.{Rule}
+use Rattle.model.specs.declared.Rule.the-variants.{Sum, Larger}
 use Rattle.model.specs.Assignment.{reads, Valid}
 use Rattle.model.specs.Capacity.{endTime, capacity}
 
@@ -30,14 +34,22 @@ pub record Case : Type 0 where
 unfoldable pub left : ℕ → ℕ → ℕ
 left age load = pick (ltb load age) 0 (load - age)
 
--- a disk starts at delay plus load (001, equation 5)
-abbrev pub starting : ℕ → ℕ → ℕ
-starting delay load = delay + load
+-- a disk starts at delay plus load (001, equation 5), or, where the wait overlaps the queue, at the larger of the two
+unfoldable pub starting : Rule → ℕ → ℕ → ℕ
+starting Sum delay load = delay + load
+starting Larger delay load = max delay load
 
--- n disks with their costs, loads and delays, and q blocks with their copies
-unfoldable pub base : ℕ → ℕ → (ℕ → ℕ) → (ℕ → ℕ) → (ℕ → ℕ) → (ℕ → ℕ → Bool) → Case
-base n q cost load delay copy =
-    record { disks = n; blocks = q; start = λ d. starting (delay d) (load d); cost = cost; copy = copy }
+-- when a disk has read b blocks, and how many it can read by time t
+unfoldable pub endBy : Rule → ℕ → ℕ → ℕ → ℕ → ℕ
+endBy r delay load cost b = endTime (starting r delay load) cost b
+
+unfoldable pub capacityBy : Rule → ℕ → ℕ → ℕ → ℕ → ℕ
+capacityBy r delay load cost t = capacity (starting r delay load) cost t
+
+-- n disks with their costs, loads and delays, under a start rule, and q blocks with their copies
+unfoldable pub base : Rule → ℕ → ℕ → (ℕ → ℕ) → (ℕ → ℕ) → (ℕ → ℕ) → (ℕ → ℕ → Bool) → Case
+base r n q cost load delay copy =
+    record { disks = n; blocks = q; start = λ d. starting r (delay d) (load d); cost = cost; copy = copy }
 
 -- every disk's cost is at least 1
 unfoldable pub Priced : Case → Type 0

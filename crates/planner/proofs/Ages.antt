@@ -1,19 +1,21 @@
 -- What the age of a request decides.
---     start-some, start-none     the load less the age, after the delay; where the age is larger the delay alone
---     start-unaged               at age 0 delay and load
+--     start-some, start-none     the rule sees the load less the age; where the age is larger, the start is the delay alone by either rule
+--     start-unaged               at age 0 the rule sees the whole load
 --     asked-said                 age and copies of an accepted request decide its case
 --     kind-two                   so kind 2 asks what kind 4 asks at age 0
 --     kind-two-bytes             the bytes of both, for copies that can be sent
-use Prim.Native.Nat.{ℕ, _+_, _-_, _^_, _≤_, _<_}
+use Prim.Native.Nat.{ℕ, _-_, _^_, _≤_, _<_}
 use mathlib.Core.Path.{_≡_, refl, sym, ap, ap₂, _∙_}
 use mathlib.Core.List.{List}
 use native.Mathlib.Omega.{arith}
 use lib.ListN.{length}
 use Rattle.basics.specs.Limits.{disksMost, blocksMost}
 use Rattle.basics.specs.Lists.{All}
-use Rattle.model.specs.Case.{Case}
+use Rattle.model.specs.declared.Rule.{Rule}
+use Rattle.model.specs.declared.Rule.the-variants.{Sum, Larger}
+use Rattle.model.specs.Case.{Case, starting}
 use Rattle.model.proofs.Left.{left-some, left-none, left-zero}
-use Rattle.field.specs.Sheet.{Out, got}
+use Rattle.field.specs.Sheet.{got}
 use Rattle.settings.specs.declared.Row.{Row}
 use Rattle.settings.specs.declared.Table.{Table}
 use Rattle.request.specs.Draft.{requestBytes}
@@ -23,18 +25,24 @@ use Rattle.request.proofs.RoundTrip.{same-but-kind}
 use Rattle.request.proofs.Writing.{Sendable}
 use Rattle.planner.specs.Asked.{startOf, tableCase, caseIn, asked}
 
-module _ (age : ℕ) (r : Row) where
-  pub start-some : age ≤ r .load → startOf age r ≡ r .delay + (r .load - age)
-  unfolding startOf
-  start-some h = rw (left-some age (r .load) h)
+-- with no load left either rule gives the delay
+start-alone : (rule : Rule) (delay : ℕ) → starting rule delay 0 ≡ delay
+unfolding starting
+start-alone Sum delay = omega arith
+start-alone Larger delay = omega arith
 
-  pub start-none : r .load ≤ age → startOf age r ≡ r .delay
+module _ (rule : Rule) (r : Row) where
+  pub start-some : (age : ℕ) → age ≤ r .load → startOf rule age r ≡ starting rule (r .delay) (r .load - age)
   unfolding startOf
-  start-none h = omega (arith, left-none age (r .load) h)
+  start-some age h = rw (left-some age (r .load) h)
 
-pub start-unaged : (r : Row) → startOf 0 r ≡ r .delay + r .load
-unfolding startOf
-start-unaged r = rw (left-zero (r .load))
+  pub start-none : (age : ℕ) → r .load ≤ age → startOf rule age r ≡ r .delay
+  unfolding startOf
+  start-none age h = rw (left-none age (r .load) h) (start-alone rule (r .delay))
+
+  pub start-unaged : startOf rule 0 r ≡ starting rule (r .delay) (r .load)
+  unfolding startOf
+  start-unaged = rw (left-zero (r .load))
 
 module _ (number tenancy : ℕ) (t : Table) where
   pub asked-said : (s : List ℕ) {r : Said} {e : ℕ} → requestSheet number tenancy (t .disks) s 0 ≡ got r e

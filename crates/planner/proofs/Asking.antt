@@ -54,7 +54,7 @@ module _ (number tenancy : ℕ) {t : Table} (w : Proper t) (s : List ℕ) {r : R
         lists = record {
           copies = take q (r .copies);
           costs = costs t;
-          starts = map (startOf (r .age)) (diskRows t);
+          starts = map (startOf (t .rule) (r .age)) (diskRows t);
           starts-long = length-starts w (r .age) ∙ sym (length-costs w);
           case = refl;
           disks = sym (length-costs w);

@@ -10,3 +10,4 @@ pub mod ReadBack
 pub mod Unique
 pub mod Enough
 pub mod Ages
+pub mod Rules

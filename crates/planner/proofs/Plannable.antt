@@ -49,8 +49,8 @@ module _ {t : Table} (w : Proper t) where
   unfolding costs
   length-costs = length-map (diskRows t) (λ r. r .cost) ∙ count-disks w
 
-  pub length-starts : (age : ℕ) → length (map (startOf age) (diskRows t)) ≡ t .disks
-  length-starts age = length-map (diskRows t) (startOf age) ∙ count-disks w
+  pub length-starts : (age : ℕ) → length (map (startOf (t .rule) age) (diskRows t)) ≡ t .disks
+  length-starts age = length-map (diskRows t) (startOf (t .rule) age) ∙ count-disks w
 
   copies-plannable : (age : ℕ) (copies : List ℕ) → 0 < t .disks → length copies ≤ blocksMost → All (Sendable (t .disks)) copies
       → Plannable (tableCase t age copies)
@@ -61,7 +61,7 @@ module _ {t : Table} (w : Proper t) where
     blocks-few = few;
     cost-least = λ d l. omega (arith, column-at w (λ r. r .cost) refl d, row-in w d (omega (arith, length-costs)) .cost-low);
     cost-most = λ d l. omega (arith, column-at w (λ r. r .cost) refl d, row-in w d (omega (arith, length-costs)) .cost-high);
-    start-most = λ d l. omega (arith, column-at w (startOf age) (start-zero age) d, start-small w age d);
+    start-most = λ d l. omega (arith, column-at w (startOf (t .rule) age) (start-zero (t .rule) age) d, start-small w (t .rule) age d);
     held = λ b l.
         let s : Sendable (t .disks) (getD copies b 0) = all-at (Sendable (t .disks)) copies each b 0 l in
         let x = mask-some (t .disks) (getD copies b 0) (s .under) (omega (arith, s .some)) in

@@ -1,10 +1,11 @@
 -- The columns of a table: the cost of each disk and, at an age, its start, and 0 behind them.
---     start-small     every row ends its wait within 101 seconds
---     UpTo            the columns are done up to a row: at the start, one row more, at the end
+--     wait-small, start-small     delay and what is left of the load are within 101 seconds, and so is every start
+--     UpTo                        the columns are done up to a row: at the start, one row more, at the end
 use mathlib.Core.Path.{_≡_, refl, sym, ap, _∙_}
 use mathlib.Core.Logic.{⊎-elim}
 use mathlib.Core.List.{List, map}
 use Prim.Native.Nat.{ℕ, _+_, _≤_, _<_}
+use native.Mathlib.Nat.{le-trans}
 use native.Mathlib.Omega.{arith}
 use borrow.Author.Count.{below-more}
 use lib.ListN.{length, getD, set, length-set, length-map, List·getD-map, List·getD-eq-default}
@@ -13,6 +14,9 @@ use Rattle.basics.specs.Limits.{disksMost, startMost}
 use Rattle.basics.specs.Padded.{padTo}
 use Rattle.basics.proofs.Padded.{pad-length, pad-at}
 use Rattle.basics.proofs.Tests.{lt-or-le}
+use Rattle.model.specs.declared.Rule.{Rule}
+use Rattle.model.specs.Case.{left}
+use Rattle.model.proofs.Capacity.{start-most}
 use Rattle.model.proofs.Left.{left-most}
 use Rattle.settings.specs.declared.Row.{Row}
 use Rattle.settings.specs.declared.Table.{Table}
@@ -36,13 +40,16 @@ module _ {t : Table} (w : Proper t) where
   pub row-in : (d : ℕ) → d < t .disks → InRange (rowAt t d)
   row-in d l = in-range _ (proper-good w d l)
 
-  pub start-small : (age i : ℕ) → startOf age (rowAt t i) ≤ startMost
-  unfolding startOf
-  start-small age i =
+  pub wait-small : (age i : ℕ) → rowAt t i .delay + left age (rowAt t i .load) ≤ startMost
+  wait-small age i =
       ⊎-elim
       (λ l. omega (arith, left-most age (rowAt t i .load), row-in i l .load-high, row-in i l .delay-high))
       (λ l. rw (proper-zero w i l) (omega (arith, left-most age 0)))
       (lt-or-le i (t .disks))
+
+  pub start-small : (rule : Rule) (age i : ℕ) → startOf rule age (rowAt t i) ≤ startMost
+  unfolding startOf
+  start-small rule age i = le-trans (start-most rule _ _) (wait-small age i)
 
   module _ (f : Row → ℕ) (z : f (disk 0 0 0) ≡ 0) where
     -- a column, by its row
@@ -64,16 +71,16 @@ module _ {t : Table} (w : Proper t) where
 
 -- ---- row by row
 
-pub record UpTo (age : ℕ) (rows : List Row) (costs starts : List ℕ) (i : ℕ) : Type 0 where
+pub record UpTo (rule : Rule) (age : ℕ) (rows : List Row) (costs starts : List ℕ) (i : ℕ) : Type 0 where
   pub below : i ≤ disksMost
   pub costs-long : length costs ≡ disksMost
   pub starts-long : length starts ≡ disksMost
   pub cost : (k : ℕ) → k < i → getD costs k 0 ≡ (getD rows k (disk 0 0 0)) .cost
-  pub start : (k : ℕ) → k < i → getD starts k 0 ≡ startOf age (getD rows k (disk 0 0 0))
+  pub start : (k : ℕ) → k < i → getD starts k 0 ≡ startOf rule age (getD rows k (disk 0 0 0))
 
-pub upto-start : (age : ℕ) (rows : List Row) (costs starts : List ℕ) → length costs ≡ disksMost → length starts ≡ disksMost
-    → UpTo age rows costs starts 0
-upto-start age rows costs starts p q = record {
+pub upto-start : (rule : Rule) (age : ℕ) (rows : List Row) (costs starts : List ℕ) → length costs ≡ disksMost → length starts ≡ disksMost
+    → UpTo rule age rows costs starts 0
+upto-start rule age rows costs starts p q = record {
   below = omega arith;
   costs-long = p;
   starts-long = q;
@@ -89,27 +96,28 @@ one-more f xs i v l e h =
     (λ k m. getD-set-other xs i k v 0 (λ q. omega arith) ∙ h k m)
     (getD-set-same xs i v 0 l ∙ e)
 
-pub upto-step : {age : ℕ} {rows : List Row} {costs starts : List ℕ} {i : ℕ} (r : Row) (s : ℕ) → i < disksMost
-    → r ≡ getD rows i (disk 0 0 0) → s ≡ startOf age r → UpTo age rows costs starts i
-    → UpTo age rows (set costs i (r .cost)) (set starts i s) (i + 1)
-upto-step {age} {rows} {costs} {starts} {i} r s l e h w = record {
+pub upto-step : {rule : Rule} {age : ℕ} {rows : List Row} {costs starts : List ℕ} {i : ℕ} (r : Row) (s : ℕ) → i < disksMost
+    → r ≡ getD rows i (disk 0 0 0) → s ≡ startOf rule age r → UpTo rule age rows costs starts i
+    → UpTo rule age rows (set costs i (r .cost)) (set starts i s) (i + 1)
+upto-step {rule} {age} {rows} {costs} {starts} {i} r s l e h w = record {
   below = omega arith;
   costs-long = length-set costs i (r .cost) ∙ w .costs-long;
   starts-long = length-set starts i s ∙ w .starts-long;
   cost = one-more (λ k. (getD rows k (disk 0 0 0)) .cost) costs i (r .cost) (omega (arith, w .costs-long)) (ap (λ x. x .cost) e) (w .cost);
   start =
-      one-more (λ k. startOf age (getD rows k (disk 0 0 0))) starts i s (omega (arith, w .starts-long)) (h ∙ ap (startOf age) e) (w .start);
+      one-more (λ k. startOf rule age (getD rows k (disk 0 0 0))) starts i s (omega (arith, w .starts-long)) (h ∙ ap (startOf rule age) e)
+      (w .start);
 }
 
--- a row that is 0 starts at 0 at every age
-pub start-zero : (age : ℕ) → startOf age (disk 0 0 0) ≡ 0
+-- a row that is 0 starts at 0 by either rule and at every age
+pub start-zero : (rule : Rule) (age : ℕ) → startOf rule age (disk 0 0 0) ≡ 0
 unfolding startOf
-start-zero age = omega (arith, left-most age 0)
+start-zero rule age = omega (arith, start-most rule 0 (left age 0), left-most age 0)
 
-pub upto-done : {age : ℕ} {t : Table} {cs ss : List ℕ} {i : ℕ} → Proper t → disksMost ≤ i → UpTo age (t .rows) cs ss i
+pub upto-done : {t : Table} {age : ℕ} {cs ss : List ℕ} {i : ℕ} → Proper t → disksMost ≤ i → UpTo (t .rule) age (t .rows) cs ss i
     → Columns t age cs ss
 unfolding costs
-upto-done {age} {t} {cs} {ss} {i} f l w = record {
+upto-done {t} {age} {cs} {ss} {i} f l w = record {
   costs-held = column-whole f (λ r. r .cost) refl cs (w .costs-long) (λ k m. w .cost k (omega arith));
-  starts-held = column-whole f (startOf age) (start-zero age) ss (w .starts-long) (λ k m. w .start k (omega arith));
+  starts-held = column-whole f (startOf (t .rule) age) (start-zero (t .rule) age) ss (w .starts-long) (λ k m. w .start k (omega arith));
 }

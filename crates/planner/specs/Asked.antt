@@ -10,6 +10,7 @@ use mathlib.Core.List.{List, map}
 use lib.ListN.{length, getD}
 use Rattle.basics.specs.Limits.{disksMost, blocksMost, costMost, startMost}
 use Rattle.basics.specs.Lists.{listed}
+use Rattle.model.specs.declared.Rule.{Rule}
 use Rattle.model.specs.Case.{Case, left, starting, Held}
 use Rattle.model.specs.Plan.{Optimal}
 use Rattle.engine.specs.Spelled.{spelled}
@@ -21,13 +22,13 @@ use Rattle.request.specs.Request.{Said, requestSheet}
 use Rattle.plan.specs.Plan.{Plan}
 use Rattle.plan.specs.Range.{InRange}
 
--- a disk starts at its delay plus what the age has left of its load
-unfoldable pub startOf : ℕ → Row → ℕ
-startOf age r = starting (r .delay) (left age (r .load))
+-- a disk starts by the rule at its delay and what the age has left of its load
+unfoldable pub startOf : Rule → ℕ → Row → ℕ
+startOf rule age r = starting rule (r .delay) (left age (r .load))
 
 -- the disks of a table with their costs and, at an age, their starts; the blocks of a request with their copies, bit d standing for disk d
 unfoldable pub tableCase : Table → ℕ → List ℕ → Case
-tableCase t age copies = spelled copies (costs t) (map (startOf age) (diskRows t))
+tableCase t age copies = spelled copies (costs t) (map (startOf (t .rule) age) (diskRows t))
 
 unfoldable pub caseIn : Table → Out Said → Out Case
 caseIn t (got r e) = got (tableCase t (r .age) (r .copies)) e

@@ -23,7 +23,7 @@ use Rattle.planner.specs.Asked.{startOf, Plannable, PlanFor}
 
 pub record Columns (t : Table) (age : ℕ) (costs′ starts′ : List ℕ) : Type 0 where
   pub costs-held : costs′ ≡ padTo 0 disksMost (costs t)
-  pub starts-held : starts′ ≡ padTo 0 disksMost (map (startOf age) (diskRows t))
+  pub starts-held : starts′ ≡ padTo 0 disksMost (map (startOf (t .rule) age) (diskRows t))
 
 pub record Solvable (copies costs starts : List ℕ) : Type 0 where
   pub starts-long : length starts ≡ length costs

@@ -3,14 +3,15 @@ use basics::BLOCKS;
 use basics::DISKS;
 use basics::Masks;
 use field::Written;
+use model::Rule;
 use request::Answer;
 use settings::Table;
-ghost use Prim.Native.Nat.{_≤_};
+ghost use Prim.Native.Nat.{_+_, _≤_, _<_};
 ghost use mathlib.Core.Path.{_≡_};
 ghost use lib.ListN.{length};
 ghost use Rattle.basics.specs.Limits.{disksMost};
 ghost use Rattle.engine.specs.Spelled.{spelled};
-ghost use Rattle.model.specs.Case.{left as leftOf};
+ghost use Rattle.model.specs.Case.{left as leftOf, starting};
 ghost use Rattle.field.specs.Send.{Sent};
 ghost use Rattle.plan.specs.Draft.{planDraft};
 ghost use Rattle.settings.specs.Table.{Proper};
@@ -138,6 +139,22 @@ fn left(age: u32, load: u32) -> u32
     load - age
 }
 
+// When a disk starts, by the rule.
+fn start(rule: Rule, delay: u32, load: u32) -> u32
+    requires { ⌜ delay + load < 4294967296 ⌝ }
+    ensures { λ r. ⌜ r ≡ starting rule delay load ⌝ }
+{
+    match rule {
+        Rule::Sum => delay + load,
+        Rule::Larger => {
+            if delay < load {
+                return load;
+            }
+            delay
+        }
+    }
+}
+
 // The cost of each disk, and its start at an age.
 fn columns(table: Table, age: u32, costs: &mut [u32; DISKS], starts: &mut [u32; DISKS])
     requires { ⌜ Proper table × (length (now costs) ≡ disksMost) × (length (now starts) ≡ disksMost) ⌝ }
@@ -148,7 +165,8 @@ fn columns(table: Table, age: u32, costs: &mut [u32; DISKS], starts: &mut [u32; 
     while i < DISKS {
         let row = rows[i];
         costs[i] = row.cost;
-        starts[i] = row.delay + left(age, row.load);
+        let rule = table.rule;
+        starts[i] = start(rule, row.delay, left(age, row.load));
         i += 1;
     }
 }

@@ -1,6 +1,8 @@
 -- What is known of an accepted sheet and of its table.
---     RowGot, row-steps, SheetGot, sheet-steps     the fields of a row, and of a sheet
+--     RowGot, row-steps, HeadGot, head-steps, SheetGot, sheet-steps     the fields of a row, of all before the rows, of a sheet
+--     heading-disks        N is 1 to 64
 --     accepted-tenancy     its tenancy is not 0
+--     accepted-rule        its table has the rule that its kind says
 --     accepted-proper, none-proper, told-proper    the table of a sheet, of no settings, of any answer is `Proper`
 --     proper-length, proper-good, proper-zero      what that says: 64 rows, those of the disks in range, those beyond 0
 use mathlib.Core.Path.{_≡_, refl, sym, ap, _∙_, subst}
@@ -14,16 +16,19 @@ use Rattle.basics.proofs.Padded.{pad-length, pad-at}
 use Rattle.basics.proofs.Lists.{all-at}
 use Rattle.field.specs.Sheet.{Out, got, refused, _>>=_, pure, times}
 use Rattle.field.specs.Field.{opening, inside}
-use Rattle.field.proofs.Sheet.{bind-got, after-got, pure-got}
+use Rattle.field.proofs.Sheet.{bind-got, pure-got}
 use Rattle.field.proofs.Whole.{whole-got}
 use Rattle.field.proofs.Opened.{opening-tenancy}
 use Rattle.field.proofs.Values.{between-range, times-all}
+use Rattle.model.specs.declared.Rule.{Rule}
+use Rattle.model.specs.declared.Rule.the-variants.{Sum}
+use Rattle.settings.specs.declared.Head.{Head}
 use Rattle.settings.specs.declared.Row.{Row}
 use Rattle.settings.specs.declared.Settings.{Settings}
 use Rattle.settings.specs.declared.Table.{Table}
 use Rattle.settings.specs.Row.{disk, noDisk, cost, load, delay, row, inRange, allInRange}
 use Rattle.settings.specs.Table.{table, noTable, Proper}
-use Rattle.settings.specs.Sheet.{kinds, heading, body, fields, settingsSheet}
+use Rattle.settings.specs.Sheet.{kinds, ruleOf, heading, body, fields, settingsSheet}
 use Rattle.settings.specs.Told.{tableOf, Told}
 use Rattle.settings.proofs.Rows.{Good, range-in, all-rows, rows-all}
 
@@ -63,36 +68,58 @@ row-good s at r e h =
       delay-high = between-range 0 delayMost 15 15 s (w .third) (w .delay-got) .1;
     })
 
+-- ---- the fields before the rows
+
+pub record HeadGot (unit t : ℕ) (s : List ℕ) (at : ℕ) (h : Head) (e : ℕ) : Type 0 where
+  pub kind : ℕ
+  pub fourth : ℕ
+  pub opening-got : opening kinds unit t s at ≡ got kind fourth
+  pub disks-got : inside 1 disksMost 6 s fourth ≡ got (h .disks) e
+  pub rule-is : ruleOf kind ≡ h .rule
+
+module _ (unit t : ℕ) (s : List ℕ) (at : ℕ) (h : Head) (e : ℕ) (f : heading unit t s at ≡ got h e) where
+  pub head-steps : HeadGot unit t s at h e
+  unfolding heading
+  head-steps =
+      let o = bind-got (opening kinds unit t) s at h e
+      (λ k. inside 1 disksMost 6 >>= λ n. pure (record { disks = n; rule = ruleOf k })) f in
+      let n = bind-got (inside 1 disksMost 6) s (o .mid) h e (λ n. pure (record { disks = n; rule = ruleOf (o .found) })) (o .last) in
+      let p = pure-got _ h s _ e (n .last) in
+      record {
+        kind = o .found;
+        fourth = o .mid;
+        opening-got = o .first;
+        disks-got = n .first ∙ ap (λ x. got (x .disks) (n .mid)) (p .0) ∙ ap (got (h .disks)) (p .1);
+        rule-is = ap (λ x. x .rule) (p .0);
+      }
+
+  pub heading-disks : (1 ≤ h .disks) × (h .disks ≤ disksMost)
+  heading-disks = between-range 1 disksMost 6 6 s (head-steps .fourth) (head-steps .disks-got)
+
 -- ---- the fields of a sheet
 
 pub record SheetGot (unit t : ℕ) (s : List ℕ) (T : Table) (e : ℕ) : Type 0 where
-  pub kind : ℕ
-  pub disks : ℕ
+  pub front : Head
   pub rows : List Row
-  pub fourth : ℕ
   pub fifth : ℕ
-  pub opening-got : opening kinds unit t s 0 ≡ got kind fourth
-  pub disks-got : inside 1 disksMost 6 s fourth ≡ got disks fifth
-  pub rows-got : times disks row s fifth ≡ got rows e
-  pub is : table disks rows ≡ T
+  pub front-got : HeadGot unit t s 0 front fifth
+  pub rows-got : times (front .disks) row s fifth ≡ got rows e
+  pub is : table (front .disks) (front .rule) rows ≡ T
   pub long : e ≡ length s
 
 pub sheet-steps : (unit t : ℕ) (s : List ℕ) (T : Table) (e : ℕ) → settingsSheet unit t s 0 ≡ got T e → SheetGot unit t s T e
-unfolding settingsSheet fields heading body
+unfolding settingsSheet fields body
 sheet-steps unit t s T e h =
     let g = whole-got (fields unit t) s T e h in
     let f = bind-got (heading unit t) s 0 T e body (g .0) in
-    let d = after-got (opening kinds unit t) s 0 (f .found) (f .mid) (inside 1 disksMost 6) (f .first) in
-    let k = bind-got (times (f .found) row) s (f .mid) T e (λ rows. pure (table (f .found) rows)) (f .last) in
+    let front = f .found in
+    let k = bind-got (times (front .disks) row) s (f .mid) T e (λ rows. pure (table (front .disks) (front .rule) rows)) (f .last) in
     let p = pure-got _ T s _ e (k .last) in
     record {
-      kind = d .found;
-      disks = f .found;
+      front = front;
       rows = k .found;
-      fourth = d .mid;
       fifth = f .mid;
-      opening-got = d .first;
-      disks-got = d .last;
+      front-got = head-steps unit t s 0 front (f .mid) (f .first);
       rows-got = k .first ∙ ap (got (k .found)) (p .1);
       is = p .0;
       long = g .1;
@@ -100,28 +127,40 @@ sheet-steps unit t s T e h =
 
 -- no tenancy is 0
 pub accepted-tenancy : (unit t : ℕ) (s : List ℕ) (T : Table) (e : ℕ) → settingsSheet unit t s 0 ≡ got T e → 0 < t
-accepted-tenancy unit t s T e h = opening-tenancy unit t kinds s 0 (sheet-steps unit t s T e h .opening-got)
+accepted-tenancy unit t s T e h = opening-tenancy unit t kinds s 0 (sheet-steps unit t s T e h .front-got .opening-got)
 
 -- ---- its table
 
-proper-table : (n : ℕ) (rs : List Row) → length rs ≡ n → n ≤ disksMost → allInRange rs ≡ true → Proper (table n rs)
+-- the start rule that its kind says
+pub accepted-rule : (unit t : ℕ) (s : List ℕ) (T : Table) (e k m : ℕ) → settingsSheet unit t s 0 ≡ got T e
+    → opening kinds unit t s 0 ≡ got k m → T .rule ≡ ruleOf k
 unfolding table
-proper-table n rs c f g = record { given = rs; count = c; few = f; good = g; held = refl }
+accepted-rule unit t s T e k m h o =
+    let w = sheet-steps unit t s T e h in
+    let f = w .front-got in
+    let same : got (f .kind) (f .fourth) ≡ got k m = sym (f .opening-got) ∙ o in
+    let kind : f .kind ≡ k = cc in
+    ap (λ x. x .rule) (sym (w .is)) ∙ sym (f .rule-is) ∙ ap ruleOf kind
+
+proper-table : (n : ℕ) (r : Rule) (rs : List Row) → length rs ≡ n → n ≤ disksMost → allInRange rs ≡ true → Proper (table n r rs)
+unfolding table
+proper-table n r rs c f g = record { given = rs; count = c; few = f; good = g; held = refl }
 
 -- N rows in range, at least one, and rows of 0 behind them
 pub accepted-proper : (unit t : ℕ) (s : List ℕ) (T : Table) (e : ℕ) → settingsSheet unit t s 0 ≡ got T e → Proper T × (1 ≤ T .disks)
 unfolding table
 accepted-proper unit t s T e h =
     let w = sheet-steps unit t s T e h in
-    let n = between-range 1 disksMost 6 6 s (w .fourth) (w .disks-got) in
-    let g = times-all row Good s (row-good s) (w .disks) (w .fifth) (w .rows) e (w .rows-got) in
+    let h = w .front in
+    let n = between-range 1 disksMost 6 6 s (w .front-got .fourth) (w .front-got .disks-got) in
+    let g = times-all row Good s (row-good s) (h .disks) (w .fifth) (w .rows) e (w .rows-got) in
     subst (λ (x : Table). Proper x × (1 ≤ x .disks)) (w .is)
-    (proper-table (w .disks) (w .rows) (g .0) (n .1) (rows-all (w .rows) (g .1)), n .0)
+    (proper-table (h .disks) (h .rule) (w .rows) (g .0) (n .1) (rows-all (w .rows) (g .1)), n .0)
 
 -- no settings yet
 pub none-proper : Proper noTable
 unfolding noTable allInRange
-none-proper = proper-table 0 [] refl (omega arith) refl
+none-proper = proper-table 0 Sum [] refl (omega arith) refl
 
 proper-of : (unit t : ℕ) (s : List ℕ) (o : Out Table) → settingsSheet unit t s 0 ≡ o → Proper (tableOf o)
 unfolding tableOf

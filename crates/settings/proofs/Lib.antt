@@ -1,4 +1,5 @@
 pub mod Rows
+pub mod Rules
 pub mod Reading
 pub mod Writing
 pub mod Accepted

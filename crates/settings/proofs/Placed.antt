@@ -15,14 +15,16 @@ use Rattle.field.specs.declared.Written.the-variants.{Refused}
 use Rattle.field.specs.Send.{Draft, sheet, none, answerTo, Sent}
 use Rattle.field.specs.Sheet.{Note, got, refused}
 use Rattle.field.proofs.Sends.{Roomless, sent-enough}
-use Rattle.field.proofs.Within.{Within, within-bind, within-then, within-bounded, within-pure, within-more, within-between, within-opening}
+use Rattle.field.proofs.Within.{Within, within-bind, within-known, within-pure, within-more, within-between, within-opening}
 use Rattle.field.proofs.Within.{within-times, within-whole, place-inside}
+use Rattle.model.specs.declared.Rule.{Rule}
+use Rattle.settings.specs.declared.Head.{Head}
 use Rattle.settings.specs.Row.{row}
 use Rattle.settings.specs.Sheet.{kinds, heading, body, fields, settingsSheet}
 use Rattle.settings.specs.declared.Settings.{Settings}
 use Rattle.settings.specs.Told.{toldBy, Told}
 use Rattle.settings.specs.Draft.{settingsDraft}
-use Rattle.settings.proofs.Reading.{heading-disks}
+use Rattle.settings.proofs.Accepted.{heading-disks}
 use Rattle.settings.proofs.Writing.{Sheeted, draft-either}
 
 within-row : Within 15 row
@@ -31,18 +33,20 @@ within-row =
     within-bind {j = 5} (within-between _ _ _ _) (λ c. within-bind {j = 5} (within-between _ _ _ _) (λ l.
     within-bind {j = 5} (within-between _ _ _ _) (λ d. within-pure _)))
 
-within-body : (n : ℕ) → n ≤ disksMost → Within (disksMost * 15) (body n)
+within-body : (h : Head) → h .disks ≤ disksMost → Within (disksMost * 15) (body h)
 unfolding body
-within-body n l = within-more (omega arith) (within-bind (within-times n within-row) (λ rows. within-pure _))
+within-body h l = within-more (omega arith) (within-bind (within-times (h .disks) within-row) (λ rows. within-pure _))
 
 within-heading : (unit t : ℕ) → Within 20 (heading unit t)
 unfolding heading
-within-heading unit t = within-then {j = 15} (within-opening kinds unit t) (within-between _ _ _ _)
+within-heading unit t =
+    within-bind {j = 15} (within-opening kinds unit t) (λ k. within-bind {j = 5} (within-between _ _ _ _) (λ n. within-pure _))
 
 pub within-sheet : (unit t : ℕ) → Within (20 + disksMost * 15) (settingsSheet unit t)
 unfolding settingsSheet fields
 within-sheet unit t =
-    within-whole (within-bounded disksMost (within-heading unit t) (λ s at n e h. heading-disks unit t s at h .1) (λ n l. within-body n l))
+    within-whole (within-known (λ h. h .disks ≤ disksMost) (within-heading unit t)
+    (λ s at h e f. heading-disks unit t s at h e f .1) within-body)
 
 pub sheet-placed : (unit t : ℕ) (s : List ℕ) {n : Note} → settingsSheet unit t s 0 ≡ refused n → n .place ≤ length s
 sheet-placed unit t s h = place-inside (within-sheet unit t) h
@@ -54,12 +58,12 @@ unfolding toldBy
 read-placed unit t s {k} {r} w h =
     sheet-placed unit t s (sym (w .answer) ∙ ap (λ (a : Verdict). toldBy k a (r .table)) h)
 
-module _ (unit t : ℕ) (cs ls ds : List ℕ) where
-  roomless : Roomless (settingsDraft unit t cs ls ds)
+module _ (r : Rule) (unit t : ℕ) (cs ls ds : List ℕ) where
+  roomless : Roomless (settingsDraft r unit t cs ls ds)
   unfolding Roomless
   roomless =
-      draft-either unit t cs ls ds (λ n o e. subst Roomless (sym e) o) (λ w. subst Roomless (sym (w .is)) tt)
+      draft-either r unit t cs ls ds (λ n o e. subst Roomless (sym e) o) (λ w. subst Roomless (sym (w .is)) tt)
 
-  pub write-enough : (out out′ : List ℕ) (f : Fault) (after : List ℕ) → Sent (settingsDraft unit t cs ls ds) out (Refused f) after
-      → f .refusal ≡ NoRoom → f .place ≤ length out′ → answerTo (settingsDraft unit t cs ls ds) out′ ≡ got tt (f .place)
-  write-enough out out′ f after w q l = sent-enough (settingsDraft unit t cs ls ds) out out′ f after roomless w q l
+  pub write-enough : (out out′ : List ℕ) (f : Fault) (after : List ℕ) → Sent (settingsDraft r unit t cs ls ds) out (Refused f) after
+      → f .refusal ≡ NoRoom → f .place ≤ length out′ → answerTo (settingsDraft r unit t cs ls ds) out′ ≡ got tt (f .place)
+  write-enough out out′ f after w q l = sent-enough (settingsDraft r unit t cs ls ds) out out′ f after roomless w q l

@@ -1,6 +1,7 @@
 -- Laws of the reader.
+--     told-by                                                 what an answer told
 --     row-got, row-first, row-second, row-third               a row, and the fields at which it may stop
---     heading-got, heading-stops, heading-disks               all before the rows, and what is known of N there
+--     heading-got, heading-stops, heading-out                 all before the rows, and the fields at which it may stop
 --     Rows, rows-start, rows-step, rows-stop, rows-told       the loop over the rows
 --     told-none, read-told, read-stops                        how the reader ends
 use mathlib.Core.Path.{_≡_, refl, sym, ap, _∙_, subst}
@@ -16,30 +17,23 @@ use Rattle.field.specs.declared.Verdict.the-variants.{Accepted}
 use Rattle.field.specs.Refusal.{noteOf}
 use Rattle.field.specs.Sheet.{Note, Out, got, refused, pure, times}
 use Rattle.field.specs.Field.{opening, inside, end, whole}
-use Rattle.field.proofs.Sheet.{next, then, stops, halts, after-got}
+use Rattle.field.proofs.Sheet.{next, then, stops, halts}
 use Rattle.field.proofs.Whole.{whole-next, whole-stops, end-place}
-use Rattle.field.proofs.Values.{between-range}
 use Rattle.field.proofs.Lists.{prefix, times-start, times-step, times-stop, times-done}
+use Rattle.model.specs.declared.Rule.{Rule}
+use Rattle.settings.specs.declared.Head.{Head}
 use Rattle.settings.specs.declared.Row.{Row}
-use Rattle.settings.specs.declared.RowRead.{RowRead}
-use Rattle.settings.specs.declared.RowRead.the-variants.{Got}
-use Rattle.settings.specs.declared.RowRead.the-variants.{Refused as Stopped}
 use Rattle.settings.specs.declared.Settings.{Settings}
 use Rattle.settings.specs.declared.Table.{Table}
 use Rattle.settings.specs.Row.{disk, noDisk, cost, load, delay, row}
 use Rattle.settings.specs.Table.{table, noTable}
-use Rattle.settings.specs.Sheet.{kinds, heading, body, fields, settingsSheet}
+use Rattle.settings.specs.Sheet.{kinds, ruleOf, heading, body, fields, settingsSheet}
 use Rattle.settings.specs.Told.{toldBy, tableOf, Told}
-use Rattle.settings.specs.Parts.{refusedWith, toldRow}
+use Rattle.settings.specs.Parts.{refusedWith}
 
--- what reading a row told
-pub row-told-got : {f : RowRead} {o : Out Row} {r : Row} {e : ℕ} → toldRow f ≡ o → f ≡ Got r e → o ≡ got r e
-unfolding toldRow
-row-told-got h q = sym h ∙ ap toldRow q
-
-pub row-told-refused : {f : RowRead} {o : Out Row} {r : Fault} → toldRow f ≡ o → f ≡ Stopped r → o ≡ refused (noteOf r)
-unfolding toldRow
-row-told-refused h q = sym h ∙ ap toldRow q
+-- what is known of an answer says what it told
+pub told-by : {A B : Type 0} (tell : A → B) {x y : A} {o : B} → tell x ≡ o → x ≡ y → o ≡ tell y
+told-by tell h q = sym h ∙ ap tell q
 
 -- ---- a row
 
@@ -67,68 +61,77 @@ module _ (s : List ℕ) (at : ℕ) where
 module _ (unit t : ℕ) (s : List ℕ) (at : ℕ) where
   pub heading-stops : {m : Note} → opening kinds unit t s at ≡ refused m → heading unit t s at ≡ refused m
   unfolding heading
-  heading-stops f = halts (opening kinds unit t) _ s at f
+  heading-stops f = stops (opening kinds unit t) _ s at f
 
-  pub heading-got : {v e : ℕ} → opening kinds unit t s at ≡ got v e → heading unit t s at ≡ inside 1 disksMost 6 s e
-  unfolding heading
-  heading-got f = then (opening kinds unit t) _ s at f
+  module _ {k a : ℕ} (f : opening kinds unit t s at ≡ got k a) where
+    pub heading-out : {m : Note} → inside 1 disksMost 6 s a ≡ refused m → heading unit t s at ≡ refused m
+    unfolding heading
+    heading-out g = next (opening kinds unit t) _ s at f ∙ stops (inside 1 disksMost 6) _ s a g
 
-  -- N is 1 to 64
-  pub heading-disks : {n e : ℕ} → heading unit t s at ≡ got n e → (1 ≤ n) × (n ≤ disksMost)
-  unfolding heading
-  heading-disks {n} {e} h =
-      let w = after-got (opening kinds unit t) s at n e (inside 1 disksMost 6) h in between-range 1 disksMost 6 6 s (w .mid) (w .last)
+    pub heading-got : {n e : ℕ} {r : Rule} → inside 1 disksMost 6 s a ≡ got n e → r ≡ ruleOf k
+        → heading unit t s at ≡ got (record { disks = n; rule = r }) e
+    unfolding heading pure
+    heading-got {n} {e} g q =
+        next (opening kinds unit t) _ s at f ∙ next (inside 1 disksMost 6) _ s a g
+        ∙ ap (λ x. got (record { disks = n; rule = x }) e) (sym q)
 
 -- ---- the loop over the rows
 
--- i rows of n are read: the table holds them, and the rest is as the definition says
-pub record Rows (n : ℕ) (s : List ℕ) (start : ℕ) (rows : List Row) (at i : ℕ) : Type 0 where
+-- i rows are read: the table holds them, and the rest is as the definition says
+pub record Rows (h : Head) (s : List ℕ) (start : ℕ) (rows : List Row) (at i : ℕ) : Type 0 where
   pub done : List Row
   pub count : length done ≡ i
-  pub below : i ≤ n
-  pub spec : times n row s start ≡ prefix done (times (n - i) row s at)
+  pub below : i ≤ h .disks
+  pub spec : times (h .disks) row s start ≡ prefix done (times (h .disks - i) row s at)
   pub held : rows ≡ padTo noDisk disksMost done
 
 -- none yet, in the empty table
-pub rows-start : (n : ℕ) (s : List ℕ) (start : ℕ) {T : Table} → T ≡ noTable → Rows n s start (T .rows) start 0
+pub rows-start : (h : Head) (s : List ℕ) (start : ℕ) {T : Table} → T ≡ noTable → Rows h s start (T .rows) start 0
 unfolding noTable table
-rows-start n s start q =
-    record { done = []; count = refl; below = omega arith; spec = times-start row s n start; held = ap (λ x. x .rows) q }
+rows-start h s start q = record {
+  done = [];
+  count = refl;
+  below = omega arith;
+  spec = times-start row s (h .disks) start;
+  held = ap (λ x. x .rows) q;
+}
 
-module _ {n : ℕ} {s : List ℕ} {start : ℕ} {rows : List Row} {at i : ℕ} (w : Rows n s start rows at i) where
-  pub rows-step : {r : Row} {e : ℕ} → n ≤ disksMost → i < n → row s at ≡ got r e → Rows n s start (set rows i r) e (i + 1)
-  rows-step {r} {e} l h f = record {
+module _ {h : Head} {s : List ℕ} {start : ℕ} {rows : List Row} {at i : ℕ} (w : Rows h s start rows at i) where
+  pub rows-step : {r : Row} {e : ℕ} → h .disks ≤ disksMost → i < h .disks → row s at ≡ got r e → Rows h s start (set rows i r) e (i + 1)
+  rows-step {r} {e} few l f = record {
     done = w .done ++ (r ∷ []);
     count = omega (arith, w .count, length-append (w .done) (r ∷ []));
     below = omega arith;
-    spec = w .spec ∙ times-step row s n i at (w .done) h f;
+    spec = w .spec ∙ times-step row s (h .disks) i at (w .done) l f;
     held = ap (λ x. set x i r) (w .held) ∙ pad-set noDisk disksMost (w .done) r i (w .count) (omega arith);
   }
 
   -- a row that is refused
-  pub rows-stop : {m : Note} → i < n → row s at ≡ refused m → whole (body n) s start ≡ refused m
+  pub rows-stop : {m : Note} → i < h .disks → row s at ≡ refused m → whole (body h) s start ≡ refused m
   unfolding whole body
-  rows-stop h f =
-      stops (body n) _ s start (stops (times n row) _ s start (w .spec ∙ times-stop row s n i at (w .done) h f))
+  rows-stop l f =
+      stops (body h) _ s start (stops (times (h .disks) row) _ s start (w .spec ∙ times-stop row s (h .disks) i at (w .done) l f))
 
-  all-rows : n ≤ i → body n s start ≡ got (table n (w .done)) at
+  all-rows : h .disks ≤ i → body h s start ≡ got (table (h .disks) (h .rule) (w .done)) at
   unfolding body pure
-  all-rows h = next (times n row) _ s start (w .spec ∙ times-done row s n i at (w .done) h)
+  all-rows l = next (times (h .disks) row) _ s start (w .spec ∙ times-done row s (h .disks) i at (w .done) l)
 
   -- bytes after the last row
-  pub rows-extra : {m : Note} → n ≤ i → end s at ≡ refused m → whole (body n) s start ≡ refused m
+  pub rows-extra : {m : Note} → h .disks ≤ i → end s at ≡ refused m → whole (body h) s start ≡ refused m
   unfolding whole
-  rows-extra h f = next (body n) _ s start (all-rows h) ∙ halts end _ s at f
+  rows-extra l f = next (body h) _ s start (all-rows l) ∙ halts end _ s at f
 
   -- none
-  pub rows-told : {v e : ℕ} → n ≤ i → end s at ≡ got v e
-      → Told (length s) (whole (body n) s start) (record { answer = Accepted; table = record { disks = n; rows = rows } })
+  pub rows-told : {v e : ℕ} → h .disks ≤ i → end s at ≡ got v e
+      → Told (length s) (whole (body h) s start)
+      (record { answer = Accepted; table = record { disks = h .disks; rule = h .rule; rows = rows } })
   unfolding whole pure table toldBy tableOf
-  rows-told {v} {e} h f =
-      let g = next (body n) _ s start (all-rows h) ∙ then end _ s at f in
-      let t : record { disks = n; rows = rows } ≡ table n (w .done) = ap (λ x. record { disks = n; rows = x }) (w .held) in
+  rows-told {v} {e} l f =
+      let g = next (body h) _ s start (all-rows l) ∙ then end _ s at f in
+      let t : record { disks = h .disks; rule = h .rule; rows = rows } ≡ table (h .disks) (h .rule) (w .done) =
+      ap (λ x. record { disks = h .disks; rule = h .rule; rows = x }) (w .held) in
       record {
-        answer = ap (λ x. got x (length s)) t ∙ ap (got (table n (w .done))) (sym (end-place s at v e f)) ∙ sym g;
+        answer = ap (λ x. got x (length s)) t ∙ ap (got (table (h .disks) (h .rule) (w .done))) (sym (end-place s at v e f)) ∙ sym g;
         table = t ∙ ap tableOf (sym g);
       }
 
@@ -144,10 +147,10 @@ told-none {n} e h q = record {
 
 module _ (unit t : ℕ) (s : List ℕ) where
   -- after its heading a sheet is its rows and its end
-  pub read-told : {n e : ℕ} {r : Settings} → heading unit t s 0 ≡ got n e → Told (length s) (whole (body n) s e) r
+  pub read-told : {h : Head} {e : ℕ} {r : Settings} → heading unit t s 0 ≡ got h e → Told (length s) (whole (body h) s e) r
       → Told (length s) (settingsSheet unit t s 0) r
   unfolding settingsSheet fields
-  read-told {r = r} h w = subst (λ o. Told (length s) o r) (sym (whole-next (heading unit t) body s 0 h)) w
+  read-told {r = r} f w = subst (λ o. Told (length s) o r) (sym (whole-next (heading unit t) body s 0 f)) w
 
   -- a heading that is refused
   pub read-stops : {m : Note} → heading unit t s 0 ≡ refused m → settingsSheet unit t s 0 ≡ refused m

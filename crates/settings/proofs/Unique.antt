@@ -9,6 +9,7 @@ use Rattle.field.proofs.Sends.{sent-unique}
 use Rattle.field.proofs.Unique.{note-injective}
 use Rattle.field.specs.declared.Verdict.{Verdict}
 use Rattle.field.specs.declared.Verdict.the-variants.{Accepted, Refused}
+use Rattle.model.specs.declared.Rule.{Rule}
 use Rattle.settings.specs.declared.Settings.{Settings}
 use Rattle.settings.specs.declared.Table.{Table}
 use Rattle.settings.specs.Table.{noTable}
@@ -38,6 +39,6 @@ read-unique unit t s n a b p q =
     ∙ ap (λ x. record { answer = b .answer; table = x }) same
 
 -- `write`: the answer and the buffer
-pub write-unique : (unit t : ℕ) (cs ls ds out : List ℕ) (a b : Written) (x y : List ℕ)
-    → Sent (settingsDraft unit t cs ls ds) out a x → Sent (settingsDraft unit t cs ls ds) out b y → (a ≡ b) × (x ≡ y)
-write-unique unit t cs ls ds out a b x y p q = sent-unique (settingsDraft unit t cs ls ds) out a b x y p q
+pub write-unique : (r : Rule) (unit t : ℕ) (cs ls ds out : List ℕ) (a b : Written) (x y : List ℕ)
+    → Sent (settingsDraft r unit t cs ls ds) out a x → Sent (settingsDraft r unit t cs ls ds) out b y → (a ≡ b) × (x ≡ y)
+write-unique r unit t cs ls ds out a b x y p q = sent-unique (settingsDraft r unit t cs ls ds) out a b x y p q

@@ -29,10 +29,12 @@ use Rattle.field.proofs.Puts.{laid-none, laid-length, laid-join, spell-room}
 use Rattle.field.proofs.Opened.{opening-length}
 use Rattle.field.proofs.Sends.{sent-refused, sent-long, sent-fits}
 use Rattle.field.proofs.Spell.{spell-more}
+use Rattle.model.specs.declared.Rule.{Rule}
 use Rattle.settings.specs.declared.Row.{Row}
 use Rattle.settings.specs.Row.{noDisk, allInRange, rowBytes}
-use Rattle.settings.specs.Draft.{rowsOf, headingBytes, sheetBytes, listsFit, settingsDraft}
+use Rattle.settings.specs.Draft.{rowsOf, kindOf, headingBytes, sheetBytes, listsFit, settingsDraft}
 use Rattle.settings.specs.Parts.{rowsWidth}
+use Rattle.settings.proofs.Rules.{kind-small}
 use Rattle.settings.proofs.Rows.{length-rows, rows-some}
 
 -- ---- the loop over the rows
@@ -101,35 +103,35 @@ module _ {t : ℕ} {cs ls ds : List ℕ} where
 
 -- ---- the length of a sheet
 
-heading-length : (unit t n : ℕ) → n ≤ disksMost → length (headingBytes unit t n) ≡ 2 + widthOf unit + widthOf t
+heading-length : (r : Rule) (unit t n : ℕ) → n ≤ disksMost → length (headingBytes r unit t n) ≡ 2 + widthOf unit + widthOf t
 unfolding headingBytes widthOf
-heading-length unit t n h =
+heading-length r unit t n h =
     omega (
       arith,
-      length-append (openingBytes 1 unit t) (encode n),
-      opening-length 1 unit t,
-      width-one 1 (omega arith),
+      length-append (openingBytes (kindOf r) unit t) (encode n),
+      opening-length (kindOf r) unit t,
+      width-one (kindOf r) (kind-small r),
       width-one n (omega arith),
     )
 
-pub sheet-length : (unit t : ℕ) (rows : List Row) → length rows ≤ disksMost
-    → length (sheetBytes unit t rows) ≡ 2 + widthOf unit + widthOf t + length (spellAll rowBytes rows)
+pub sheet-length : (r : Rule) (unit t : ℕ) (rows : List Row) → length rows ≤ disksMost
+    → length (sheetBytes r unit t rows) ≡ 2 + widthOf unit + widthOf t + length (spellAll rowBytes rows)
 unfolding sheetBytes
-sheet-length unit t rows h =
+sheet-length r unit t rows h =
     omega (
       arith,
-      length-append (headingBytes unit t (length rows)) (spellAll rowBytes rows),
-      heading-length unit t (length rows) h,
+      length-append (headingBytes r unit t (length rows)) (spellAll rowBytes rows),
+      heading-length r unit t (length rows) h,
     )
 
 -- ---- drafts, and how the writer ends
 
-module _ (unit t : ℕ) (cs ls ds : List ℕ) where
+module _ (r : Rule) (unit t : ℕ) (cs ls ds : List ℕ) where
   -- the lists fit, all rows are in range, and the draft is their sheet
   pub record Sheeted : Type 0 where
     pub fit : ListsFit t cs ls ds
     pub good : allInRange (rowsOf cs ls ds) ≡ true
-    pub is : settingsDraft unit t cs ls ds ≡ sheet (sheetBytes unit t (rowsOf cs ls ds))
+    pub is : settingsDraft r unit t cs ls ds ≡ sheet (sheetBytes r unit t (rowsOf cs ls ds))
     pub long : length (rowsOf cs ls ds) ≡ length cs
 
   pub draft-sheet : ListsFit t cs ls ds → allInRange (rowsOf cs ls ds) ≡ true → Sheeted
@@ -142,7 +144,7 @@ module _ (unit t : ℕ) (cs ls ds : List ℕ) where
   }
 
   -- every draft is none, not for want of room, or a sheet
-  pub draft-either : {X : Type 0} → ((n : Note) → (n .number ≡ 11 → ⊥) → settingsDraft unit t cs ls ds ≡ none n → X) → (Sheeted → X) → X
+  pub draft-either : {X : Type 0} → ((n : Note) → (n .number ≡ 11 → ⊥) → settingsDraft r unit t cs ls ds ≡ none n → X) → (Sheeted → X) → X
   unfolding settingsDraft
   draft-either f g =
       by-cases (listsFit t cs ls ds)
@@ -151,12 +153,12 @@ module _ (unit t : ℕ) (cs ls ds : List ℕ) where
       (λ n. f (unplaced 6) (λ z. absurd (omega (arith, z))) (pick-false _ _ n))
 
   module _ (out : List ℕ) where
-    pub write-unfit : listsFit t cs ls ds ≡ false → Sent (settingsDraft unit t cs ls ds) out (Refused (faultAt OutOfRange 0)) out
+    pub write-unfit : listsFit t cs ls ds ≡ false → Sent (settingsDraft r unit t cs ls ds) out (Refused (faultAt OutOfRange 0)) out
     unfolding settingsDraft
     write-unfit n = subst (λ d. Sent d out (Refused (faultAt OutOfRange 0)) out) (sym (pick-false _ _ n)) (sent-refused _ out)
 
     module _ {w : ℕ} (f : ListsFit t cs ls ds) (e : w ≡ rowsWidth (rowsOf cs ls ds)) where
-      pub write-out : w ≡ 0 → Sent (settingsDraft unit t cs ls ds) out (Refused (faultAt BadAmount 0)) out
+      pub write-out : w ≡ 0 → Sent (settingsDraft r unit t cs ls ds) out (Refused (faultAt BadAmount 0)) out
       unfolding settingsDraft rowsWidth
       write-out z =
           let long = length-rows cs ls ds (f .loads) (f .delays) in
@@ -175,27 +177,27 @@ module _ (unit t : ℕ) (cs ls ds : List ℕ) where
         width = e ∙ gate-some (allInRange (rowsOf cs ls ds)) _ (λ n. z (e ∙ n)) .1
 
         module _ {a b : ℕ} (p : a ≡ widthOf unit) (q : b ≡ widthOf t) where
-          whole : length (sheetBytes unit t (rowsOf cs ls ds)) ≡ 2 + a + b + w
-          whole = omega (arith, width, sheet-length unit t (rowsOf cs ls ds) (omega (arith, sheeted .long, f .few)))
+          whole : length (sheetBytes r unit t (rowsOf cs ls ds)) ≡ 2 + a + b + w
+          whole = omega (arith, width, sheet-length r unit t (rowsOf cs ls ds) (omega (arith, sheeted .long, f .few)))
 
           pub write-long : length out < 2 + a + b + w
-              → Sent (settingsDraft unit t cs ls ds) out (Refused (faultAt NoRoom (2 + a + b + w))) out
+              → Sent (settingsDraft r unit t cs ls ds) out (Refused (faultAt NoRoom (2 + a + b + w))) out
           write-long l =
               subst (λ d. Sent d out (Refused (faultAt NoRoom (2 + a + b + w))) out) (sym (sheeted .is))
-              (sent-long (sheetBytes unit t (rowsOf cs ls ds)) out (sym whole) l)
+              (sent-long (sheetBytes r unit t (rowsOf cs ls ds)) out (sym whole) l)
 
           module _ (l : 2 + a + b + w ≤ length out) where
-            pub heading-room : length (headingBytes unit t (length cs)) ≤ length out
-            heading-room = omega (arith, heading-length unit t (length cs) (f .few))
+            pub heading-room : length (headingBytes r unit t (length cs)) ≤ length out
+            heading-room = omega (arith, heading-length r unit t (length cs) (f .few))
 
-            module _ {mid : List ℕ} {at : ℕ} (h : Laid out 0 (headingBytes unit t (length cs)) mid at) where
+            module _ {mid : List ℕ} {at : ℕ} (h : Laid out 0 (headingBytes r unit t (length cs)) mid at) where
               pub rows-room : at + length (spellAll rowBytes (rowsOf cs ls ds)) ≤ length mid
-              rows-room = omega (arith, heading-length unit t (length cs) (f .few), width, h .place, laid-length h)
+              rows-room = omega (arith, heading-length r unit t (length cs) (f .few), width, h .place, laid-length h)
 
               pub write-done : {after : List ℕ} {next : ℕ} → Laid mid at (spellAll rowBytes (rowsOf cs ls ds)) after next
-                  → Sent (settingsDraft unit t cs ls ds) out (Length next) after
+                  → Sent (settingsDraft r unit t cs ls ds) out (Length next) after
               unfolding sheetBytes
-              write-done {after} {next} r =
+              write-done {after} {next} behind =
                   subst (λ d. Sent d out (Length next) after) (sym (sheeted .is))
-                  (sent-fits (subst (λ (n : ℕ). Laid out 0 (headingBytes unit t n ++ spellAll rowBytes (rowsOf cs ls ds)) after next)
-                  (sym (sheeted .long)) (laid-join h r)))
+                  (sent-fits (subst (λ (n : ℕ). Laid out 0 (headingBytes r unit t n ++ spellAll rowBytes (rowsOf cs ls ds)) after next)
+                  (sym (sheeted .long)) (laid-join h behind)))

@@ -1,6 +1,6 @@
 -- What the private functions promise.
 --     refusedWith              a refused sheet: no table
---     toldRow                  a row and the place after it, or a refusal
+--     toldHead, toldRow        what is before the rows, and a row, each with the place after it, or a refusal
 --     rowWidth, rowsWidth      the bytes of a row, and of all rows, or 0 where a value is out of its range
 use Prim.Native.Nat.{ℕ}
 use mathlib.Core.List.{List}
@@ -12,6 +12,9 @@ use Rattle.field.specs.Put.{spellAll}
 use Rattle.field.specs.Refusal.{noteOf}
 use Rattle.field.specs.Sheet.{Out, got, refused}
 use Rattle.settings.specs.declared.Row.{Row}
+use Rattle.settings.specs.declared.Head.{Head}
+use Rattle.settings.specs.declared.HeadRead.{HeadRead}
+use Rattle.settings.specs.declared.HeadRead.the-variants.{Got as GotHead, Refused as NoHead}
 use Rattle.settings.specs.declared.RowRead.{RowRead}
 use Rattle.settings.specs.declared.RowRead.the-variants.{Got}
 use Rattle.settings.specs.declared.RowRead.the-variants.{Refused as Stopped}
@@ -21,6 +24,10 @@ use Rattle.settings.specs.Table.{noTable}
 
 unfoldable pub refusedWith : Fault → Settings
 refusedWith e = record { answer = Refused e; table = noTable }
+
+unfoldable pub toldHead : HeadRead → Out Head
+toldHead (GotHead h at) = got h at
+toldHead (NoHead e) = refused (noteOf e)
 
 unfoldable pub toldRow : RowRead → Out Row
 toldRow (Got r at) = got r at

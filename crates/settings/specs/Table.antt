@@ -6,17 +6,19 @@ use mathlib.Core.Path.{_≡_}
 use lib.ListN.{length, take}
 use Rattle.basics.specs.Limits.{disksMost}
 use Rattle.basics.specs.Padded.{padTo}
+use Rattle.model.specs.declared.Rule.{Rule}
+use Rattle.model.specs.declared.Rule.the-variants.{Sum}
 use Rattle.settings.specs.declared.Row.{Row}
 use Rattle.settings.specs.declared.Table.{Table}
 use Rattle.settings.specs.Row.{noDisk, allInRange}
 
--- N disks with their rows, and rows of 0 behind them: 64 rows
-unfoldable pub table : ℕ → List Row → Table
-table n rs = record { disks = n; rows = padTo noDisk disksMost rs }
+-- N disks, the start rule, the disks' rows, and rows of 0 behind them: 64 rows
+unfoldable pub table : ℕ → Rule → List Row → Table
+table n r rs = record { disks = n; rule = r; rows = padTo noDisk disksMost rs }
 
--- no settings yet: N is 0, all rows are 0
+-- no settings yet: N is 0, the rule is the sum, all rows are 0
 unfoldable pub noTable : Table
-noTable = table 0 []
+noTable = table 0 Sum []
 
 -- the rows of the N disks
 unfoldable pub diskRows : Table → List Row

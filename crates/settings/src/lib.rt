@@ -1,4 +1,4 @@
-// The settings sheet: kind 1, unit, tenancy, disk count N, then for each disk its cost, load and delay.
+// The settings sheet: kind 1 or 5, unit, tenancy, disk count N, then for each disk its cost, load and delay.
 use basics::COST_MOST;
 use basics::DELAY_MOST;
 use basics::DISKS;
@@ -8,6 +8,7 @@ use field::Field;
 use field::Refusal;
 use field::Verdict;
 use field::Written;
+use model::Rule;
 ghost use mathlib.Core.Path.{_≡_};
 ghost use Prim.Native.Nat.{_+_, _≤_};
 ghost use lib.ListN.{length};
@@ -18,10 +19,10 @@ ghost use Rattle.field.specs.Send.{Sent};
 ghost use Rattle.field.specs.Told.{told};
 ghost use Rattle.settings.specs.Row.{disk, row, rowBytes};
 ghost use Rattle.settings.specs.Table.{noTable};
-ghost use Rattle.settings.specs.Sheet.{heading as headingOf, body as bodyOf, settingsSheet};
+ghost use Rattle.settings.specs.Sheet.{ruleOf, heading as headingOf, body as bodyOf, settingsSheet};
 ghost use Rattle.settings.specs.Told.{Told};
-ghost use Rattle.settings.specs.Draft.{rowsOf, headingBytes, listsFit, settingsDraft};
-ghost use Rattle.settings.specs.Parts.{refusedWith, toldRow, rowWidth, rowsWidth};
+ghost use Rattle.settings.specs.Draft.{rowsOf, kindOf, headingBytes, listsFit, settingsDraft};
+ghost use Rattle.settings.specs.Parts.{refusedWith, toldHead, toldRow, rowWidth, rowsWidth};
 
 // One disk: the cost of a block, the load when a request comes, the delay.
 pub struct Row {
@@ -30,9 +31,10 @@ pub struct Row {
     pub delay: u32,
 }
 
-// N disks; the rows from N on are 0.
+// N disks, and when they start; the rows from N on are 0.
 pub struct Table {
     pub disks: u32,
+    pub rule: Rule,
     pub rows: [Row; DISKS],
 }
 
@@ -42,13 +44,25 @@ pub struct Settings {
     pub table: Table,
 }
 
+// What stands before the rows: N, and the start rule that the kind says.
+struct Head {
+    disks: u32,
+    rule: Rule,
+}
+
+// That and the place after it, or the refusal.
+enum HeadRead {
+    Got(Head, usize),
+    Refused(Fault),
+}
+
 // One row and the place after it, or the refusal.
 enum RowRead {
     Got(Row, usize),
     Refused(Fault),
 }
 
-// No settings yet: N is 0, all rows are 0.
+// No settings yet: N is 0, the rule is the sum, all rows are 0.
 pub fn empty() -> Table
     ensures { λ r. ⌜ r ≡ noTable ⌝ }
 {
@@ -59,6 +73,7 @@ pub fn empty() -> Table
     };
     Table {
         disks: 0,
+        rule: Rule::Sum,
         rows: [zero; DISKS],
     }
 }
@@ -102,24 +117,42 @@ fn row_at(s: &[u8], at: usize) -> RowRead
     }
 }
 
-// All before the rows: N and the place after it.
-fn heading(s: &[u8], unit: u32, tenancy: u32) -> Field
-    ensures { λ r. ⌜ told r ≡ headingOf unit tenancy (now (s .entry)) 0 ⌝ }
+// The start rule that a kind says.
+fn rule_of(kind: u32) -> Rule
+    ensures { λ r. ⌜ r ≡ ruleOf kind ⌝ }
 {
-    match field::opening(s, &[1], unit, tenancy) {
-        Field::Got(_, at) => field::inside(s, at, 1, DISKS as u32, Refusal::OutOfRange),
-        Field::Refused(e) => Field::Refused(e),
+    if kind == 5 {
+        return Rule::Larger;
+    }
+    Rule::Sum
+}
+
+// All before the rows.
+fn heading(s: &[u8], unit: u32, tenancy: u32) -> HeadRead
+    ensures { λ r. ⌜ toldHead r ≡ headingOf unit tenancy (now (s .entry)) 0 ⌝ }
+{
+    match field::opening(s, &[1, 5], unit, tenancy) {
+        Field::Got(kind, at) => match field::inside(s, at, 1, DISKS as u32, Refusal::OutOfRange) {
+            Field::Got(disks, next) => {
+                let rule = rule_of(kind);
+                HeadRead::Got(Head { disks, rule }, next)
+            }
+            Field::Refused(e) => HeadRead::Refused(e),
+        },
+        Field::Refused(e) => HeadRead::Refused(e),
     }
 }
 
-// The rows of `disks` disks from a place on, and then the end of the sheet.
-fn body(s: &[u8], start: usize, disks: u32) -> Settings
-    requires { ⌜ disks ≤ disksMost ⌝ }
-    ensures { λ r. ⌜ Told (length (now (s .entry))) (whole (bodyOf disks) (now (s .entry)) start) r ⌝ }
+// The rows from a place on, and then the end of the sheet.
+fn body(s: &[u8], start: usize, head: Head) -> Settings
+    requires { ⌜ head .disks ≤ disksMost ⌝ }
+    ensures { λ r. ⌜ Told (length (now (s .entry))) (whole (bodyOf head) (now (s .entry)) start) r ⌝ }
 {
     let none = empty();
     let mut rows = none.rows;
     let mut at = start;
+    let disks = head.disks;
+    let rule = head.rule;
     let n = disks as usize;
     let mut i = 0;
     while i < n {
@@ -137,7 +170,7 @@ fn body(s: &[u8], start: usize, disks: u32) -> Settings
     match field::end(s, at) {
         Field::Got(_, _) => Settings {
             answer: Verdict::Accepted,
-            table: Table { disks, rows },
+            table: Table { disks, rule, rows },
         },
         Field::Refused(e) => refuse(e),
     }
@@ -148,8 +181,8 @@ pub fn read(s: &[u8], unit: u32, tenancy: u32) -> Settings
     ensures { λ r. ⌜ Told (length (now (s .entry))) (settingsSheet unit tenancy (now (s .entry)) 0) r ⌝ }
 {
     match heading(s, unit, tenancy) {
-        Field::Got(disks, at) => body(s, at, disks),
-        Field::Refused(e) => refuse(e),
+        HeadRead::Got(head, at) => body(s, at, head),
+        HeadRead::Refused(e) => refuse(e),
     }
 }
 
@@ -217,12 +250,22 @@ fn put_rows(costs: &[u32], loads: &[u32], delays: &[u32], out: &mut [u8], start:
     at
 }
 
-// Puts the fields before the rows and answers the place after them.
-fn put_heading(unit: u32, tenancy: u32, disks: u32, out: &mut [u8]) -> usize
-    requires { ⌜ length (headingBytes unit tenancy disks) ≤ length (now out) ⌝ }
-    ensures { λ r. ⌜ Laid (now (out .entry)) 0 (headingBytes unit tenancy disks) (now (out .exit)) r ⌝ }
+// The kind that says a rule.
+fn kind_of(rule: Rule) -> u32
+    ensures { λ r. ⌜ r ≡ kindOf rule ⌝ }
 {
-    let at = field::put_opening(1, unit, tenancy, out);
+    match rule {
+        Rule::Sum => 1,
+        Rule::Larger => 5,
+    }
+}
+
+// Puts the fields before the rows and answers the place after them.
+fn put_heading(rule: Rule, unit: u32, tenancy: u32, disks: u32, out: &mut [u8]) -> usize
+    requires { ⌜ length (headingBytes rule unit tenancy disks) ≤ length (now out) ⌝ }
+    ensures { λ r. ⌜ Laid (now (out .entry)) 0 (headingBytes rule unit tenancy disks) (now (out .exit)) r ⌝ }
+{
+    let at = field::put_opening(kind_of(rule), unit, tenancy, out);
     field::put(disks, out, at)
 }
 
@@ -248,8 +291,9 @@ fn lists_fit(tenancy: u32, costs: &[u32], loads: &[u32], delays: &[u32]) -> bool
     true
 }
 
-// Writes a settings sheet of the disks' costs, loads and delays.
+// Writes a settings sheet of a start rule and the disks' costs, loads and delays.
 pub fn write(
+    rule: Rule,
     unit: u32,
     tenancy: u32,
     costs: &[u32],
@@ -257,7 +301,7 @@ pub fn write(
     delays: &[u32],
     out: &mut [u8],
 ) -> Written
-    ensures { λ r. ⌜ Sent (settingsDraft unit tenancy (now (costs .entry)) (now (loads .entry)) (now (delays .entry)))
+    ensures { λ r. ⌜ Sent (settingsDraft rule unit tenancy (now (costs .entry)) (now (loads .entry)) (now (delays .entry)))
         (now (out .entry)) r (now (out .exit)) ⌝ }
 {
     if !lists_fit(tenancy, costs, loads, delays) {
@@ -281,6 +325,6 @@ pub fn write(
             place: length,
         });
     }
-    let at = put_heading(unit, tenancy, costs.len() as u32, out);
+    let at = put_heading(rule, unit, tenancy, costs.len() as u32, out);
     Written::Length(put_rows(costs, loads, delays, out, at))
 }

@@ -7,13 +7,16 @@ use borrow.Author.Tests.{lt-ltb, le-ltb, eq-eqb, ne-eqb}
 use Rattle.basics.proofs.Choice.{pick-true, pick-false}
 use Rattle.field.specs.Refusal.{noteOf}
 use Rattle.field.specs.declared.Fault.{Fault}
-use Rattle.field.specs.Sheet.{unplaced, Out}
+use Rattle.field.specs.Field.{opening}
+use Rattle.field.specs.Sheet.{unplaced, Out, got}
 use Rattle.field.specs.declared.Verdict.the-variants.{Accepted, Refused}
+use Rattle.model.specs.declared.Rule.the-variants.{Sum}
 use Rattle.settings.specs.declared.Settings.{Settings}
 use Rattle.settings.specs.declared.Table.{Table}
-use Rattle.settings.specs.Table.{noTable}
-use Rattle.settings.specs.Sheet.{settingsSheet}
+use Rattle.settings.specs.Table.{table, noTable}
+use Rattle.settings.specs.Sheet.{kinds, ruleOf, settingsSheet}
 use Rattle.settings.specs.Told.{toldBy, Told}
+use Rattle.settings.proofs.Accepted.{accepted-rule}
 use Rattle.unit.specs.declared.Unit.{Unit}
 use Rattle.unit.specs.Life.{takes, refuses, rent, settled, set, giveBack}
 use Rattle.unit.specs.Unit.{newUnit, tenancyOf, tenanted, withTable, returned}
@@ -21,6 +24,11 @@ use Rattle.unit.specs.Unit.{newUnit, tenancyOf, tenanted, withTable, ret
 pub new-anew : (n : ℕ) (x : Table) → x ≡ noTable → record { number = n; last = 0; rented = false; table = x } ≡ newUnit n
 unfolding newUnit
 new-anew n x e = ap {B = Unit} (λ y. record { number = n; last = 0; rented = false; table = y }) e
+
+-- a new unit holds the sum
+pub new-sum : (n : ℕ) → newUnit n .table .rule ≡ Sum
+unfolding newUnit noTable table
+new-sum n = refl
 
 module _ (u : Unit) where
   pub tenancy-rented : u .rented ≡ true → tenancyOf u ≡ u .last
@@ -77,6 +85,24 @@ module _ (u : Unit) where
     pub settled-refused : (e : Fault) → r .answer ≡ Refused e → settled u o ≡ refuses u (noteOf e)
     unfolding settled toldBy
     settled-refused e q = ap (settled u) (sym (ap (λ a. toldBy n a (r .table)) (sym q) ∙ h .answer))
+
+  -- ---- the start rule
+
+  -- rented or returned, the unit holds the sum
+  pub rented-sum : (t : ℕ) → tenanted u t .table .rule ≡ Sum
+  unfolding tenanted noTable table
+  rented-sum t = refl
+
+  pub returned-sum : returned u .table .rule ≡ Sum
+  unfolding returned noTable table
+  returned-sum = refl
+
+  -- after settings, the rule that the sheet's kind says
+  pub set-rule : (s : List ℕ) {T : Table} {e k m : ℕ} → settingsSheet (u .number) (tenancyOf u) s 0 ≡ got T e
+      → opening kinds (u .number) (tenancyOf u) s 0 ≡ got k m → set u s .unit .table .rule ≡ ruleOf k
+  unfolding set settled takes
+  set-rule s {T} {e} {k} {m} h o =
+      ap (λ (x : Out Table). settled u x .unit .table .rule) h ∙ accepted-rule (u .number) (tenancyOf u) s T e k m h o
 
   -- the sheet is read for the tenancy that was found
   pub set-found : (t : ℕ) (s : List ℕ) → t ≡ tenancyOf u → set u s ≡ settled u (settingsSheet (u .number) t s 0)

@@ -1,6 +1,6 @@
 -- What holds of every unit: it holds of a new one, and each call keeps it.
-use mathlib.Core.Path.{_≡_, refl}
-use mathlib.Core.Bool.{_&&_}
+use mathlib.Core.Path.{_≡_, refl, ap}
+use mathlib.Core.Bool.{false, _&&_}
 use mathlib.Core.List.{List}
 use Prim.Native.Nat.{ℕ}
 use native.Mathlib.Omega.{arith}
@@ -8,7 +8,9 @@ use borrow.Author.Tests.{ltb-true}
 use lib.Dec.{eqb, ltb}
 use Rattle.basics.proofs.Choice.{pick-elim}
 use Rattle.field.specs.Sheet.{Out, got, refused as refusedSheet}
+use Rattle.model.specs.declared.Rule.the-variants.{Sum}
 use Rattle.settings.specs.declared.Table.{Table}
+use Rattle.settings.specs.Table.{table, noTable}
 use Rattle.settings.specs.Sheet.{settingsSheet}
 use Rattle.settings.proofs.Accepted.{accepted-proper, accepted-tenancy, none-proper}
 use Rattle.unit.specs.declared.Unit.{Unit}
@@ -22,6 +24,11 @@ unfolding newUnit
 sound-new n = record { tenancy = λ h. absurd (let z : _≡_ {A = ℕ} 0 1 = cc in omega arith); cleared = λ _. refl; proper = none-proper }
 
 module _ (u : Unit) (w : Sound u) where
+  -- while it is not rented, it holds the sum
+  pub free-sum : u .rented ≡ false → u .table .rule ≡ Sum
+  unfolding noTable table
+  free-sum h = ap (λ (x : Table). x .rule) (w .cleared h)
+
   pub sound-rent : (t : ℕ) → Sound (rent u t .unit)
   unfolding rent takes refuses tenanted
   sound-rent t =

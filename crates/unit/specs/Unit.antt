@@ -1,4 +1,4 @@
--- A unit: its number, the last tenancy accepted, whether it is rented, N and 64 table rows.
+-- A unit: its number, the last tenancy accepted, whether it is rented, and its table: N, the start rule and 64 rows.
 use Prim.Native.Nat.{ℕ}
 use mathlib.Core.Bool.{true, false}
 use Rattle.basics.specs.Choice.{pick}
@@ -6,7 +6,7 @@ use Rattle.settings.specs.declared.Table.{Table}
 use Rattle.settings.specs.Table.{noTable}
 use Rattle.unit.specs.declared.Unit.{Unit}
 
--- a new unit: last tenancy 0, not rented, N = 0, all rows 0
+-- a new unit: last tenancy 0, not rented, N = 0, the rule the sum, all rows 0
 unfoldable pub newUnit : ℕ → Unit
 newUnit n = record { number = n; last = 0; rented = false; table = noTable }
 
@@ -22,6 +22,6 @@ tenanted u t = record { number = u .number; last = t; rented = true; table = noT
 abbrev pub withTable : Unit → Table → Unit
 withTable u t = record { number = u .number; last = u .last; rented = u .rented; table = t }
 
--- not rented, N = 0, all rows 0: the last tenancy number is all that remains
+-- not rented, N = 0, the rule the sum, all rows 0: the last tenancy number is all that remains
 unfoldable pub returned : Unit → Unit
 returned u = record { number = u .number; last = u .last; rented = false; table = noTable }

@@ -4,6 +4,7 @@ use mathlib.Core.Path.{_≡_, refl}
 use lib.ListN.{replicate}
 use Rattle.field.specs.Sheet.{unplaced}
 use Rattle.field.specs.Send.{none, sheet}
+use Rattle.model.specs.declared.Rule.the-variants.{Sum, Larger}
 use Rattle.desk.specs.Desk.{settingsDraftOfBytes, requestDraftOfBytes, PlanRead}
 use Rattle.vectors.specs.Text.{bytes}
 use Rattle.vectors.proofs.Opened.{desk-opened}
@@ -12,15 +13,29 @@ use Rattle.vectors.proofs.Plan.{example as plan}
 -- ---- rp_write_settings
 
 -- a cost of 300 in four bytes: the lowest byte first
-settings-lowest-first : settingsDraftOfBytes 7 300 (bytes "2C 01 00 00") (bytes "00 00 00 00") (bytes "01 00 00 00")
+settings-lowest-first : settingsDraftOfBytes Sum 7 300 (bytes "2C 01 00 00") (bytes "00 00 00 00") (bytes "01 00 00 00")
     ≡ sheet (bytes "01 07 AC 02 01 AC 02 00 01")
 unfolding desk-opened
 settings-lowest-first = refl
 
 -- a list broken inside a number
-pub settings-broken : settingsDraftOfBytes 7 300 (bytes "04 00 00 00 03") (bytes "00 00 00 00") (bytes "01 00 00 00") ≡ none (unplaced 6)
+pub settings-broken : settingsDraftOfBytes Sum 7 300 (bytes "04 00 00 00 03") (bytes "00 00 00 00") (bytes "01 00 00 00")
+    ≡ none (unplaced 6)
 unfolding desk-opened
 settings-broken = refl
+
+-- ---- rp_write_settings_overlap
+
+-- the same lists, kind 5
+pub overlap-example : settingsDraftOfBytes Larger 7 300 (bytes "04 00 00 00") (bytes "03 00 00 00") (bytes "02 00 00 00")
+    ≡ sheet (bytes "05 07 AC 02 01 04 03 02")
+unfolding desk-opened
+overlap-example = refl
+
+overlap-broken : settingsDraftOfBytes Larger 7 300 (bytes "04 00 00 00 03") (bytes "00 00 00 00") (bytes "01 00 00 00")
+    ≡ none (unplaced 6)
+unfolding desk-opened
+overlap-broken = refl
 
 -- ---- rp_write_request
 

@@ -4,14 +4,14 @@ use mathlib.Core.List.{List, [], _∷_}
 use mathlib.Core.Path.{_≡_, refl, subst}
 use native.Mathlib.Omega.{arith}
 use lib.ListN.{getD}
-use Rattle.model.specs.Case.{Case, left}
+use Rattle.model.specs.Case.{Case, left, starting}
 use Rattle.basics.specs.Choice.{pick}
 use Rattle.basics.specs.Lists.{Rises, listed}
-use Rattle.model.specs.Figures.{asked}
+use Rattle.model.specs.Figures.{paper, asked}
 use Rattle.model.specs.Plan.{Optimal}
 use Rattle.engine.specs.Planned.{Planned}
 use Rattle.engine.specs.Spelled.{spelled}
-use Rattle.vectors.proofs.Figures.{join, same-case as figure-case, copies-p5, P5}
+use Rattle.vectors.proofs.Figures.{join, starts as startsBy, same-case as figure-case, copies-p5, P5}
 
 -- ---- the figure P5, spelled with masks and starts
 
@@ -36,9 +36,9 @@ disks = 2 ∷ 0 ∷ 0 ∷ []
 abbrev short : List ℕ
 short = 0 ∷ 99 ∷ 99 ∷ []
 
-same-case : asked 0 copies-p5 ≡ spelled copies costs starts
-unfolding join left pick
-same-case = figure-case 0 copies-p5
+same-case : asked paper 0 copies-p5 ≡ spelled copies costs starts
+unfolding join startsBy starting left pick
+same-case = figure-case paper refl 0 copies-p5
 
 -- ---- plan
 

@@ -9,8 +9,9 @@ use lib.Dec.{eqb}
 use lib.ListN.{getD, take, replicate}
 use Rattle.model.specs.Assignment.{reads, Valid}
 use Rattle.model.specs.Capacity.{endTime}
-use Rattle.model.specs.Case.{Case, left, base, Schedule, endOf, response, HasTime}
-use Rattle.model.specs.Figures.{asked}
+use Rattle.model.specs.declared.Rule.the-variants.{Sum}
+use Rattle.model.specs.Case.{Case, left, starting, base, Schedule, endOf, response, HasTime}
+use Rattle.model.specs.Figures.{paper, asked}
 use Rattle.model.specs.Plan.{Optimal}
 use Rattle.model.specs.Time.{LeastTime}
 use Rattle.field.specs.declared.Written.the-variants.{Length}
@@ -38,15 +39,15 @@ use Rattle.vectors.proofs.Request.{copies, example as request, aged-cop
 use Rattle.vectors.proofs.Plan.{plan}
 use Rattle.vectors.proofs.Unit.{ready}
 use Rattle.vectors.proofs.Program.{example as input}
-use Rattle.vectors.proofs.Figures.{join, same-case as figure-case, copies-p6, P6, copies-p7, P10}
+use Rattle.vectors.proofs.Figures.{join, starts, same-case as figure-case, copies-p6, P6, copies-p7, P10}
 
 -- the settings and the request are the case of P6
-same-case : asked 0 copies-p6 ≡ tableCase (table 3 three) 0 copies
-unfolding unit-opened tableCase startOf diskRows costs join
-same-case = figure-case 0 copies-p6
+same-case : asked paper 0 copies-p6 ≡ tableCase (table 3 Sum three) 0 copies
+unfolding unit-opened tableCase startOf starts starting diskRows costs join
+same-case = figure-case paper refl 0 copies-p6
 
 -- R is 9, the disks are 0 0 1 1, the short set is 0 1 2 3
-plan-example : PlanFor (tableCase (table 3 three) 0 copies) plan
+plan-example : PlanFor (tableCase (table 3 Sum three) 0 copies) plan
 unfolding unit-opened plan-opened tableCase All Rises
 plan-example =
     record {
@@ -75,15 +76,15 @@ request-example = record {
 
 -- ---- at an age
 
-same-aged : asked 3 copies-p7 ≡ tableCase (table 3 three) 3 aged-copies
-unfolding unit-opened tableCase startOf diskRows costs join
-same-aged = figure-case 3 copies-p7
+same-aged : asked paper 3 copies-p7 ≡ tableCase (table 3 Sum three) 3 aged-copies
+unfolding unit-opened tableCase startOf starts starting diskRows costs join
+same-aged = figure-case paper refl 3 copies-p7
 
 abbrev aged-plan : Plan
 aged-plan = record { time = 6; disks = 0 ∷ 1 ∷ 1 ∷ []; short = 0 ∷ 1 ∷ 2 ∷ [] }
 
 -- R is 6, the disks are 0 1 1, the short set is 0 1 2
-plan-aged : PlanFor (tableCase (table 3 three) 3 aged-copies) aged-plan
+plan-aged : PlanFor (tableCase (table 3 Sum three) 3 aged-copies) aged-plan
 unfolding unit-opened plan-opened tableCase All Rises
 plan-aged =
     record {
@@ -147,8 +148,8 @@ serve-no-room = (
 )
 
 -- a reason of document 01's plan
-because : (b d : ℕ) (r : Reason) → Why (tableCase (table 3 three) 0 copies) 9 (λ i. getD (0 ∷ 0 ∷ 1 ∷ 1 ∷ []) i 0) b d r
-    → Reasons (tableCase (table 3 three) 0 copies) b d r
+because : (b d : ℕ) (r : Reason) → Why (tableCase (table 3 Sum three) 0 copies) 9 (λ i. getD (0 ∷ 0 ∷ 1 ∷ 1 ∷ []) i 0) b d r
+    → Reasons (tableCase (table 3 Sum three) 0 copies) b d r
 because b d r h = record { time = 9; schedule = _; set = _; plan = plan-example .optimal; why = h }
 
 -- why block 0 is read from disk 0: it is the one chosen
@@ -171,12 +172,12 @@ unfolding endTime
 ten zero h = absurd (omega arith)
 ten (suc n) h = omega arith
 
-on-two : (a : ℕ → ℕ) → a 3 ≡ 2 → 10 ≤ response (asked 0 copies-p6) a
-unfolding asked left pick base endOf response reads
+on-two : (a : ℕ → ℕ) → a 3 ≡ 2 → 10 ≤ response (asked paper 0 copies-p6) a
+unfolding asked left starting pick base endOf response reads
 on-two a q =
     omega (
       arith,
-      latest-term 3 (endOf (asked 0 copies-p6) a) 2 (omega arith),
+      latest-term 3 (endOf (asked paper 0 copies-p6) a) 2 (omega arith),
       ten (reads 4 a 2) (count-here 4 (λ b. eqb (a b) 2) 3 (omega arith) (eq-eqb (a 3) 2 q)),
     )
 
@@ -184,7 +185,7 @@ on-two a q =
 abbrev there : ℕ → ℕ
 there b = getD (0 ∷ 0 ∷ 1 ∷ 2 ∷ []) b 0
 
-there-reads : Schedule (forced (asked 0 copies-p6) 3 2) there
+there-reads : Schedule (forced (asked paper 0 copies-p6) 3 2) there
 unfolding Schedule Valid forced asked base listed pick
 there-reads zero h = (omega arith, refl)
 there-reads (suc zero) h = (omega arith, refl)
@@ -192,19 +193,19 @@ there-reads (suc (suc zero)) h = (omega arith, refl)
 there-reads (suc (suc (suc zero))) h = (omega arith, refl)
 there-reads (suc (suc (suc (suc b)))) h = absurd (omega arith)
 
-there-ends : response (forced (asked 0 copies-p6) 3 2) there ≡ 10
-unfolding forced asked left pick base endOf response reads endTime count sum bit latest
+there-ends : response (forced (asked paper 0 copies-p6) 3 2) there ≡ 10
+unfolding forced asked left starting pick base endOf response reads endTime count sum bit latest
 there-ends = refl
 
-forced-least : LeastTime (forced (asked 0 copies-p6) 3 2) 10
-unfolding Schedule Valid forced asked left base pick response endOf
+forced-least : LeastTime (forced (asked paper 0 copies-p6) 3 2) 10
+unfolding Schedule Valid forced asked left starting base pick response endOf
 forced-least =
     record {
       lower = λ a h. on-two a (eqb-true (a 3) 2 (h 3 (omega arith) .1));
       reached = (there, there-reads, there-ends);
     }
 
-not-in-nine : Could (asked 0 copies-p6) 9 3 2 → ⊥
+not-in-nine : Could (asked paper 0 copies-p6) 9 3 2 → ⊥
 unfolding Could HasTime
 not-in-nine x = omega (arith, on-two (x .0) (x .2), x .1 .1)
 
@@ -213,9 +214,9 @@ serve-later : Comes (shelfOf ready) (bytes "05 03 02 11" ++ request) false (due 
     (ascii "reason 2 10\n") (shelfOf ready)
 unfolding program-opened tableCase diskRows costs Why asked base listed
 serve-later =
-    let w : Why (tableCase (table 3 three) 0 copies) 9 (λ i. getD (0 ∷ 0 ∷ 1 ∷ 1 ∷ []) i 0) 3 2 (Later 10) =
+    let w : Why (tableCase (table 3 Sum three) 0 copies) 9 (λ i. getD (0 ∷ 0 ∷ 1 ∷ 1 ∷ []) i 0) 3 2 (Later 10) =
     subst (λ (m : Case). Why m 9 (λ i. getD (0 ∷ 0 ∷ 1 ∷ 1 ∷ []) i 0) 3 2 (Later 10)) same-case (refl, not-in-nine, forced-least) in
-    let r : Reasons (tableCase (table 3 three) 0 copies) 3 2 (Later 10) = because 3 2 (Later 10) w in
+    let r : Reasons (tableCase (table 3 Sum three) 0 copies) 3 2 (Later 10) = because 3 2 (Later 10) w in
     (refl, refl, (explained (got (Later 10) 0), ready, (got (Later 10) 0, (Later 10, r, refl), refl, refl), refl, refl))
 
 -- there is no block 4, and no disk 3

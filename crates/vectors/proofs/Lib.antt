@@ -11,6 +11,7 @@ mod Call
 mod Program
 mod Figures
 mod Example
+mod Overlap
 mod Engine
 mod RuledOut
 mod Places

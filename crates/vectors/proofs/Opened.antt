@@ -8,9 +8,9 @@ use Rattle.field.specs.Field.{taken, number, between, ascending, kind, addresse
 use Rattle.field.specs.Put.{spellAll, hasRoom, openingBytes}
 use Rattle.basics.specs.Buffer.{paste, over}
 use Rattle.field.specs.Send.{toldWritten, answerTo, leftBy}
-use Rattle.settings.specs.Draft.{rowsOf, headingBytes as settingsHeadingBytes, sheetBytes, listsFit, settingsDraft}
+use Rattle.settings.specs.Draft.{rowsOf, kindOf, headingBytes as settingsHeadingBytes, sheetBytes, listsFit, settingsDraft}
 use Rattle.settings.specs.Row.{row, inRange, allInRange, rowBytes}
-use Rattle.settings.specs.Sheet.{heading as settingsHeading, body as settingsBody, fields, settingsSheet}
+use Rattle.settings.specs.Sheet.{ruleOf, heading as settingsHeading, body as settingsBody, fields, settingsSheet}
 use Rattle.basics.specs.Padded.{padTo}
 use Rattle.settings.specs.Table.{table, noTable}
 use Rattle.settings.specs.Told.{tableOf}
@@ -53,7 +53,7 @@ field-opened = Unit
 
 unfoldable pub settings-opened : Type 0
 unfolding
-    field-opened rowsOf settingsHeadingBytes sheetBytes listsFit settingsDraft row inRange allInRange rowBytes
+    field-opened rowsOf kindOf ruleOf settingsHeadingBytes sheetBytes listsFit settingsDraft row inRange allInRange rowBytes
     settingsHeading settingsBody fields settingsSheet padTo table noTable tableOf
 settings-opened = Unit
 

@@ -13,6 +13,7 @@ use Rattle.field.specs.Refusal.{faultAt}
 use Rattle.field.specs.Send.{none, Sent}
 use Rattle.field.specs.Sheet.{Note, note, unplaced, Out, got, refused}
 use Rattle.field.proofs.Sends.{sent-unique}
+use Rattle.model.specs.declared.Rule.the-variants.{Sum}
 use Rattle.settings.specs.Draft.{settingsDraft}
 use Rattle.settings.specs.Sheet.{settingsSheet}
 use Rattle.request.specs.Draft.{requestDraft}
@@ -57,12 +58,12 @@ unfolding settings-opened
 load-above = refl
 
 -- the writer tells no place
-pub written-load-above : settingsDraft 7 300 (4 ∷ []) (100000001 ∷ []) (1 ∷ []) ≡ none (unplaced 15)
+pub written-load-above : settingsDraft Sum 7 300 (4 ∷ []) (100000001 ∷ []) (1 ∷ []) ≡ none (unplaced 15)
 unfolding settings-opened
 written-load-above = refl
 
 -- 11 telling the buffer's length
-eleven-tells-the-buffer : Sent (settingsDraft 7 300 (4 ∷ []) (0 ∷ []) (1 ∷ [])) (replicate 7 0xEE) (Refused (faultAt NoRoom 7))
+eleven-tells-the-buffer : Sent (settingsDraft Sum 7 300 (4 ∷ []) (0 ∷ []) (1 ∷ [])) (replicate 7 0xEE) (Refused (faultAt NoRoom 7))
     (replicate 7 0xEE) → ⊥
 unfolding settings-opened
 eleven-tells-the-buffer w =

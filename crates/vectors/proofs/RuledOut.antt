@@ -12,6 +12,8 @@ use Rattle.field.specs.Sheet.{note, unplaced, Out, got, refused}
 use Rattle.field.specs.Refusal.{faultAt}
 use Rattle.field.specs.Send.{Draft, sheet, none, Sent}
 use Rattle.field.proofs.Sends.{sent-unique}
+use Rattle.model.specs.declared.Rule.{Rule}
+use Rattle.model.specs.declared.Rule.the-variants.{Sum, Larger}
 use Rattle.settings.specs.declared.Table.{Table}
 use Rattle.settings.specs.Draft.{settingsDraft}
 use Rattle.settings.specs.Sheet.{settingsSheet}
@@ -40,11 +42,12 @@ use Rattle.vectors.proofs.Request as request
 use Rattle.vectors.proofs.Plan as plan
 use Rattle.vectors.proofs.Unit as unit
 use Rattle.vectors.proofs.Example.{request-example, request-aged}
+use Rattle.vectors.proofs.Overlap.{request-one, answer-one, answer-one-sum}
 use Rattle.vectors.proofs.Engine.{copies, costs, starts, blank, plan-p5}
 use Rattle.vectors.proofs.Desk as desk
 use Rattle.vectors.proofs.Call as call
 
--- what tells two answers apart: the refusal's number and place, or 0; the verdict's; the bytes of a draft, entry by entry
+-- what tells two answers apart: the refusal's number and place, or 0; the verdict's; the bytes of a draft, entry by entry; a table's rule
 unfoldable numbered : {A : Type 0} → Out A → ℕ
 numbered (got a e) = 0
 numbered (refused n) = n .number
@@ -64,27 +67,43 @@ unfoldable byte : ℕ → Draft → ℕ
 byte i (sheet bs) = getD bs i 0
 byte i (none e) = 1000 + e .number
 
+unfoldable byRule : Rule → ℕ
+byRule Sum = 1
+byRule Larger = 2
+
+unfoldable ruled : Out Table → ℕ
+ruled (got t e) = byRule (t .rule)
+ruled (refused n) = 0
+
 -- two answers to one question that differ in some number
 apart : {A : Type 0} {x y z : A} (f : A → ℕ) → x ≡ y → x ≡ z → f y ≡ f z
 apart f p q = ap f (sym p ∙ q)
 
 -- ---- settings
 
-other-tenancy-accepted : settingsSheet 7 301 settings.example 0 ≡ got (table 3 settings.three) 14 → ⊥
+other-tenancy-accepted : settingsSheet 7 301 settings.example 0 ≡ got (table 3 Sum settings.three) 14 → ⊥
 unfolding desk-opened numbered judged by byte
 other-tenancy-accepted h = let z : _≡_ {A = ℕ} 5 0 = apart numbered settings.other-tenancy h in omega (arith, z)
 
-load-and-delay-exchanged : settingsDraft 7 300 (4 ∷ 3 ∷ 10 ∷ []) (0 ∷ 2 ∷ 0 ∷ []) (1 ∷ 0 ∷ 0 ∷ [])
+load-and-delay-exchanged : settingsDraft Sum 7 300 (4 ∷ 3 ∷ 10 ∷ []) (0 ∷ 2 ∷ 0 ∷ []) (1 ∷ 0 ∷ 0 ∷ [])
     ≡ sheet (bytes "01 07 AC 02 03 04 01 00 03 00 02 0A 00 00") → ⊥
 unfolding desk-opened numbered judged by byte
 load-and-delay-exchanged h = let z : _≡_ {A = ℕ} 0 1 = apart (byte 6) settings.draft-example h in omega (arith, z)
 
-settings-eleven-that-already-wrote : Sent (settingsDraft 7 300 (4 ∷ []) (0 ∷ []) (1 ∷ [])) (replicate 7 0xEE) (Refused (faultAt NoRoom 8))
-    (bytes "01 07 AC 02 01 04 00") → ⊥
+settings-eleven-that-already-wrote : Sent (settingsDraft Sum 7 300 (4 ∷ []) (0 ∷ []) (1 ∷ [])) (replicate 7 0xEE)
+    (Refused (faultAt NoRoom 8)) (bytes "01 07 AC 02 01 04 00") → ⊥
 unfolding desk-opened numbered judged by byte
 settings-eleven-that-already-wrote w =
     let e = sent-unique _ _ _ _ _ _ settings.write-no-room w .1 in
     let z : _≡_ {A = ℕ} 238 1 = ap (λ (l : List ℕ). getD l 0 0) e in omega (arith, z)
+
+kind-five-read-as-the-sum : settingsSheet 7 300 settings.overlap 0 ≡ got (table 3 Sum settings.busy) 14 → ⊥
+unfolding desk-opened ruled byRule
+kind-five-read-as-the-sum h = let z : _≡_ {A = ℕ} 2 1 = apart ruled settings.read-overlap h in omega (arith, z)
+
+kind-five-written-as-one : settingsDraft Larger 7 300 (4 ∷ 3 ∷ 10 ∷ []) (3 ∷ 2 ∷ 0 ∷ []) (2 ∷ 8 ∷ 0 ∷ []) ≡ sheet settings.queued → ⊥
+unfolding desk-opened numbered judged by byte
+kind-five-written-as-one h = let z : _≡_ {A = ℕ} 5 1 = apart (byte 0) settings.draft-overlap h in omega (arith, z)
 
 -- ---- request
 
@@ -186,6 +205,22 @@ unfolding desk-opened numbered judged by byte
 age-forgotten after w h =
     let z : _≡_ {A = ℕ} 6 (getD after 5 0) = ap (λ (l : List ℕ). getD l 5 0) (request-unique request-aged w .1) in omega (arith, z, h)
 
+-- one block on a unit with settings of kind 5, by the sum
+larger-as-sum : (after : List ℕ)
+    → Replied unit.overlapped request-one (replicate 10 0xEE) (record { answer = Length 9; unit = unit.overlapped }) after
+    → getD after 5 0 ≡ 9 → ⊥
+unfolding desk-opened numbered judged by byte
+larger-as-sum after w h =
+    let z : _≡_ {A = ℕ} 7 (getD after 5 0) = ap (λ (l : List ℕ). getD l 5 0) (request-unique answer-one w .1) in omega (arith, z, h)
+
+-- and by the larger, on one with settings of kind 1
+sum-as-larger : (after : List ℕ)
+    → Replied unit.summed request-one (replicate 10 0xEE) (record { answer = Length 9; unit = unit.summed }) after
+    → getD after 5 0 ≡ 7 → ⊥
+unfolding desk-opened numbered judged by byte
+sum-as-larger after w h =
+    let z : _≡_ {A = ℕ} 9 (getD after 5 0) = ap (λ (l : List ℕ). getD l 5 0) (request-unique answer-one-sum w .1) in omega (arith, z, h)
+
 rented-as-13 : rent unit.ready 299 ≡ record { verdict = refusedWith (unplaced 13); unit = unit.ready } → ⊥
 unfolding desk-opened numbered judged by byte
 rented-as-13 h = let z : _≡_ {A = ℕ} 12 13 = apart judged unit.rent-rented h in omega (arith, z)
@@ -202,11 +237,16 @@ another-tenancy-returns : giveBack unit.ready 299 ≡ record { verdict = accepte
 unfolding desk-opened numbered judged by byte
 another-tenancy-returns h = let z : _≡_ {A = ℕ} 14 0 = apart judged unit.return-other h in omega (arith, z)
 
-return-keeps-the-table : giveBack unit.ready 300 .unit .table ≡ table 3 settings.three → ⊥
+return-keeps-the-table : giveBack unit.ready 300 .unit .table ≡ table 3 Sum settings.three → ⊥
 unfolding desk-opened noTable table
 return-keeps-the-table h =
     let z : _≡_ {A = ℕ} 0 3 = ap (λ (t : Table). t .disks) (sym (ap (λ (o : Outcome). o .unit .table) unit.return-300) ∙ h) in
     omega (arith, z)
+
+return-keeps-larger : giveBack unit.overlapped 300 .unit .table .rule ≡ Larger → ⊥
+unfolding desk-opened noTable table byRule
+return-keeps-larger h =
+    let z : _≡_ {A = ℕ} 1 2 = ap byRule (sym (ap (λ (o : Outcome). o .unit .table .rule) unit.return-overlapped) ∙ h) in omega (arith, z)
 
 -- ---- desk
 
@@ -228,7 +268,7 @@ halves-swapped : requestDraftOfBytes 2 7 300 0 64 (bytes "01 00 00 00 00 00 00 8
 unfolding desk-opened numbered judged by byte
 halves-swapped h = let z : _≡_ {A = ℕ} 0 31 = apart (byte 6) desk.request-disk-63 h in omega (arith, z)
 
-broken-costs-accepted : settingsDraftOfBytes 7 300 (bytes "04 00 00 00 03") (bytes "00 00 00 00") (bytes "01 00 00 00")
+broken-costs-accepted : settingsDraftOfBytes Sum 7 300 (bytes "04 00 00 00 03") (bytes "00 00 00 00") (bytes "01 00 00 00")
     ≡ sheet (bytes "01 07 AC 02 01 04 00 01") → ⊥
 unfolding desk-opened numbered judged by byte
 broken-costs-accepted h = let z : _≡_ {A = ℕ} 1006 1 = apart (byte 0) desk.settings-broken h in omega (arith, z)

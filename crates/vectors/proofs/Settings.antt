@@ -1,15 +1,19 @@
--- The settings sheet: no settings, document 01's example read and written, a refusal of each.
+-- The settings sheet: no settings, document 01's example and a sheet of kind 5 read and written, a refusal of each.
 --     example     the sheet of document 01's bench input
 --     three       its disks
+--     overlap     a sheet of kind 5
+--     queued      the same with kind 1
+--     busy        their disks, on whose starts the rules differ
 use Prim.Native.Nat.{ℕ}
 use mathlib.Core.Path.{_≡_, refl}
-use mathlib.Core.List.{List, [], _∷_}
+use mathlib.Core.List.{List, [], _∷_, map}
 use lib.ListN.{drop, replicate}
 use Rattle.field.specs.declared.Refusal.the-variants.{NoRoom}
 use Rattle.field.specs.declared.Written.the-variants.{Refused}
 use Rattle.field.specs.Refusal.{faultAt}
-use Rattle.field.specs.Send.{sheet, Sent}
-use Rattle.field.specs.Sheet.{note, got, refused}
+use Rattle.field.specs.Send.{sheet, none, Sent}
+use Rattle.field.specs.Sheet.{note, unplaced, got, refused}
+use Rattle.model.specs.declared.Rule.the-variants.{Sum, Larger}
 use Rattle.settings.specs.declared.Row.{Row}
 use Rattle.settings.specs.Draft.{settingsDraft}
 use Rattle.settings.specs.Row.{disk}
@@ -25,12 +29,26 @@ example = bytes "01 07 AC 02 03 04 00 01 03 02 00 0A 00 00"
 abbrev pub three : List Row
 three = disk 4 0 1 ∷ disk 3 2 0 ∷ disk 10 0 0 ∷ []
 
+abbrev pub overlap : List ℕ
+overlap = bytes "05 07 AC 02 03 04 03 02 03 02 08 0A 00 00"
+
+abbrev pub queued : List ℕ
+queued = bytes "01 07 AC 02 03 04 03 02 03 02 08 0A 00 00"
+
+abbrev pub busy : List Row
+busy = disk 4 3 2 ∷ disk 3 2 8 ∷ disk 10 0 0 ∷ []
+
 -- ---- empty
 
 -- no settings yet: N is 0
 empty-disks : noTable .disks ≡ 0
 unfolding settings-opened
 empty-disks = refl
+
+-- the rule is the sum
+empty-rule : noTable .rule ≡ Sum
+unfolding settings-opened
+empty-rule = refl
 
 -- all rows are 0
 empty-rows : noTable .rows ≡ replicate 64 (disk 0 0 0)
@@ -40,9 +58,23 @@ empty-rows = refl
 -- ---- read
 
 -- document 01's example: three disks, with cost, load and delay
-read-example : settingsSheet 7 300 example 0 ≡ got (table 3 three) 14
+read-example : settingsSheet 7 300 example 0 ≡ got (table 3 Sum three) 14
 unfolding settings-opened
 read-example = refl
+
+-- kind 5 says the larger of delay and load, kind 1 their sum
+pub read-overlap : settingsSheet 7 300 overlap 0 ≡ got (table 3 Larger busy) 14
+unfolding settings-opened
+read-overlap = refl
+
+pub read-queued : settingsSheet 7 300 queued 0 ≡ got (table 3 Sum busy) 14
+unfolding settings-opened
+read-queued = refl
+
+-- no other kind is settings
+other-kinds : map (λ k. settingsSheet 7 300 (k ∷ drop 1 example) 0) (2 ∷ 3 ∷ 4 ∷ 6 ∷ []) ≡ replicate 4 (refused (unplaced 3))
+unfolding settings-opened
+other-kinds = refl
 
 -- rows N and up are 0
 rows-beyond : drop 3 (tableOf (settingsSheet 7 300 example 0) .rows) ≡ replicate 61 (disk 0 0 0)
@@ -57,11 +89,26 @@ other-tenancy = refl
 -- ---- write
 
 -- the bytes of document 01's example
-pub draft-example : settingsDraft 7 300 (4 ∷ 3 ∷ 10 ∷ []) (0 ∷ 2 ∷ 0 ∷ []) (1 ∷ 0 ∷ 0 ∷ []) ≡ sheet example
+pub draft-example : settingsDraft Sum 7 300 (4 ∷ 3 ∷ 10 ∷ []) (0 ∷ 2 ∷ 0 ∷ []) (1 ∷ 0 ∷ 0 ∷ []) ≡ sheet example
 unfolding settings-opened
 draft-example = refl
 
+-- a sheet of kind 5
+pub draft-overlap : settingsDraft Larger 7 300 (4 ∷ 3 ∷ 10 ∷ []) (3 ∷ 2 ∷ 0 ∷ []) (2 ∷ 8 ∷ 0 ∷ []) ≡ sheet overlap
+unfolding settings-opened
+draft-overlap = refl
+
+-- it is checked as document 01's is: no tenancy, a load out of its range
+overlap-no-tenancy : settingsDraft Larger 7 0 (4 ∷ []) (0 ∷ []) (1 ∷ []) ≡ none (unplaced 6)
+unfolding settings-opened
+overlap-no-tenancy = refl
+
+overlap-load-above : settingsDraft Larger 7 300 (4 ∷ []) (100000001 ∷ []) (1 ∷ []) ≡ none (unplaced 15)
+unfolding settings-opened
+overlap-load-above = refl
+
 -- one byte less than the sheet has is 11, and the buffer is as it was
-pub write-no-room : Sent (settingsDraft 7 300 (4 ∷ []) (0 ∷ []) (1 ∷ [])) (replicate 7 0xEE) (Refused (faultAt NoRoom 8)) (replicate 7 0xEE)
+pub write-no-room : Sent (settingsDraft Sum 7 300 (4 ∷ []) (0 ∷ []) (1 ∷ [])) (replicate 7 0xEE) (Refused (faultAt NoRoom 8))
+    (replicate 7 0xEE)
 unfolding settings-opened
 write-no-room = record { answer = refl; held = refl }

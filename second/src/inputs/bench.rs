@@ -3,7 +3,7 @@
 use crate::inputs::damage::{self, FAULTS};
 use crate::inputs::fields::{bytes, request, settings, with_length, Field, Role};
 use crate::inputs::whole::{self, Case};
-use crate::model::Disk;
+use crate::model::{Row, Rule, Table};
 use crate::random::Random;
 
 /// The two sheets of an input, and the unit and tenancy before them.
@@ -21,7 +21,7 @@ impl Parts {
                 Field::new(Role::Unit, unit),
                 Field::new(Role::Tenancy, tenancy),
             ],
-            settings: settings(unit, tenancy, &case.disks),
+            settings: settings(unit, tenancy, &case.table),
             request: request(unit, tenancy, age, &case.copies),
         }
     }
@@ -45,27 +45,31 @@ impl Parts {
     }
 }
 
-/// The document's sample, a wider input of the same kind, and requests with an age.
+/// The document's sample, a wider input of the same kind, a request with an age, and settings with the larger.
 fn examples() -> Vec<Parts> {
-    let row = |cost, load, delay| Disk { cost, load, delay };
-    let disks = vec![row(4, 0, 1), row(3, 2, 0), row(10, 0, 0)];
-    let wide = vec![row(300, 70_000, 1_000), row(20_000, 5, 0), row(1, 0, 400)];
-    let small = Case {
-        disks,
-        copies: vec![3, 3, 3, 6],
+    let row = |cost, load, delay| Row { cost, load, delay };
+    let case = |rule, rows: &[Row], copies: &[u64]| Case {
+        table: Table {
+            rule,
+            rows: rows.to_vec(),
+        },
+        copies: copies.to_vec(),
     };
-    let wide = Case {
-        disks: wide,
-        copies: vec![7, 2, 5],
-    };
-    let aged = Case {
-        disks: vec![row(3, 300, 0), row(5, 2, 0)],
-        copies: vec![3, 1],
-    };
+    let small = [row(4, 0, 1), row(3, 2, 0), row(10, 0, 0)];
+    let wide = [row(300, 70_000, 1_000), row(20_000, 5, 0), row(1, 0, 400)];
+    let (aged, larger) = (
+        [row(3, 300, 0), row(5, 2, 0)],
+        [row(3, 300, 200), row(5, 2, 9)],
+    );
+    let small = case(Rule::Sum, &small, &[3, 3, 3, 6]);
+    let wide = case(Rule::Sum, &wide, &[7, 2, 5]);
+    let aged = case(Rule::Sum, &aged, &[3, 1]);
+    let larger = case(Rule::Larger, &larger, &[3, 1]);
     vec![
         Parts::new(7, 300, None, &small),
         Parts::new(70_000, 4_000_000_000, None, &wide),
         Parts::new(7, 300, Some(299), &aged),
+        Parts::new(7, 300, Some(99), &larger),
     ]
 }
 
@@ -124,7 +128,7 @@ pub fn input(seed: u64, index: u64) -> Vec<u8> {
 
 fn parts(random: &mut Random, family: fn(&mut Random) -> Case) -> Parts {
     let case = family(random);
-    let age = whole::age(random, &case.disks);
+    let age = whole::age(random, &case.table.rows);
     Parts::new(random.number(), random.number().max(1), age, &case)
 }
 
@@ -135,7 +139,7 @@ fn damaged(random: &mut Random, faults: u32) -> Vec<u8> {
     } else {
         whole::small(random)
     };
-    let age = whole::age(random, &case.disks);
+    let age = whole::age(random, &case.table.rows);
     let mut parts = Parts::new(random.number(), random.number(), age, &case);
     let outer = random.within(0, faults);
     for _ in outer..faults {

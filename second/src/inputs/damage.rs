@@ -58,7 +58,7 @@ pub const FAULTS: [Fault; 21] = [
 /// The highest value of a field's range; disks and blocks by the widest range there is.
 fn highest(role: Role) -> u32 {
     match role {
-        Role::Kind => 4,
+        Role::Kind => 5,
         Role::Unit | Role::Tenancy | Role::Age | Role::AnyNumber => u32::MAX,
         Role::DiskCount => MOST_DISKS,
         Role::Cost => MOST_COST,

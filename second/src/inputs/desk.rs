@@ -5,7 +5,7 @@ use crate::hex;
 use crate::inputs::damage;
 use crate::inputs::fields;
 use crate::inputs::whole::{self, Case};
-use crate::model::{Disk, Plan, MOST_COST, MOST_DELAY, MOST_LOAD};
+use crate::model::{Plan, Row, Rule, Table, MOST_COST, MOST_DELAY, MOST_LOAD};
 use crate::planner;
 use crate::random::Random;
 use crate::sheets::{write_request, write_settings, Wanted};
@@ -114,9 +114,9 @@ fn changed(told: &Told, changes: &[Change]) -> Vec<String> {
 }
 
 /// The settings writer with every value at and past the ends of its range, and lists that are unequal or broken.
-fn settings_lines() -> Vec<String> {
+fn settings_lines(writer: &'static str) -> Vec<String> {
     let told = Told {
-        writer: "settings",
+        writer,
         numbers: vec![700, 300],
         lists: [[4, 300], [0, 70_000], [1, 0]]
             .map(|list| list_of(&list, 4))
@@ -221,7 +221,13 @@ fn plan_of(time: u32, disks: &[u8], short: &[u16]) -> Plan {
 
 /// Every fault at every field of the writers and of the plan reader.
 pub fn systematic() -> Vec<String> {
-    [settings_lines(), request_lines(), plan_lines()].concat()
+    [
+        settings_lines("settings"),
+        settings_lines("larger"),
+        request_lines(),
+        plan_lines(),
+    ]
+    .concat()
 }
 
 /// The line of a seed and an index.
@@ -263,29 +269,33 @@ fn room(random: &mut Random, length: usize) -> usize {
 
 fn settings(random: &mut Random) -> String {
     let (unit, tenancy) = (random.number(), tenancy(random));
-    let mut disks = case(random).disks;
+    let mut table = case(random).table;
     for _ in 0..*random.pick(&[0, 0, 1, 2]) {
-        spoil_rows(random, &mut disks);
+        spoil_rows(random, &mut table.rows);
     }
-    let length = write_settings(unit, tenancy, &disks, usize::MAX).map_or(20, |sheet| sheet.len());
+    let length = write_settings(unit, tenancy, &table, usize::MAX).map_or(20, |sheet| sheet.len());
     let room = room(random, length);
-    let list = |value: fn(&Disk) -> u32| {
-        disks
-            .iter()
-            .flat_map(|disk| value(disk).to_le_bytes())
+    let Table { rule, rows } = table;
+    let list = |value: fn(&Row) -> u32| {
+        rows.iter()
+            .flat_map(|row| value(row).to_le_bytes())
             .collect()
     };
     let mut lists: [Vec<u8>; 3] = [
-        list(|disk| disk.cost),
-        list(|disk| disk.load),
-        list(|disk| disk.delay),
+        list(|row| row.cost),
+        list(|row| row.load),
+        list(|row| row.delay),
     ];
     spoil_lists(random, &mut lists);
     let [costs, loads, delays] = lists.map(|list| hex::word(&list));
-    format!("settings {room} {unit} {tenancy} {costs} {loads} {delays}")
+    let writer = match rule {
+        Rule::Sum => "settings",
+        Rule::Larger => "larger",
+    };
+    format!("{writer} {room} {unit} {tenancy} {costs} {loads} {delays}")
 }
 
-fn spoil_rows(random: &mut Random, disks: &mut Vec<Disk>) {
+fn spoil_rows(random: &mut Random, disks: &mut Vec<Row>) {
     let place = random.index(disks.len() + 1);
     match disks.get_mut(place) {
         Some(disk) => match random.within(1, 6) {
@@ -294,14 +304,14 @@ fn spoil_rows(random: &mut Random, disks: &mut Vec<Disk>) {
             3 => disk.load = 100_000_001,
             4 => disk.delay = 1_000_001,
             5 => {
-                *disk = Disk {
+                *disk = Row {
                     cost: 1_000_000,
                     load: 100_000_000,
                     delay: 1_000_000,
                 }
             }
             _ => {
-                *disk = Disk {
+                *disk = Row {
                     cost: random.number(),
                     load: random.number(),
                     delay: random.number(),
@@ -312,7 +322,7 @@ fn spoil_rows(random: &mut Random, disks: &mut Vec<Disk>) {
             let count = *random.pick(&[0, 64, 65, 66]);
             disks.resize(
                 count,
-                Disk {
+                Row {
                     cost: 1,
                     load: 0,
                     delay: 0,
@@ -337,7 +347,8 @@ fn spoil_lists(random: &mut Random, lists: &mut [Vec<u8>; 3]) {
 
 fn request(random: &mut Random) -> String {
     let (unit, tenancy) = (random.number(), tenancy(random));
-    let Case { disks, mut copies } = case(random);
+    let Case { table, mut copies } = case(random);
+    let disks = table.rows;
     let count = match random.within(1, 12) {
         1 => *random.pick(&[0, 64, 65, u32::MAX]),
         2 => disks.len() as u32 - 1,
@@ -397,7 +408,7 @@ fn spoil_copies(random: &mut Random, disks: u32, copies: &mut Vec<u64>) {
 fn plan(random: &mut Random) -> String {
     let case = case(random);
     let (unit, tenancy) = (random.number(), tenancy(random));
-    let plan = planner::plan(&case.disks, &case.copies);
+    let plan = planner::plan(&case.disks(), &case.copies);
     let disk_room = room(random, plan.disks.len());
     let set_room = room(random, 2 * plan.short.len());
     let mut fields = fields::plan(unit, tenancy, &plan);

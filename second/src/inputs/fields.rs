@@ -1,6 +1,6 @@
 //! Sheets as lists of fields, so that each field can be damaged.
 
-use crate::model::{disks_of, Disk, Plan};
+use crate::model::{disks_of, Plan, Rule, Table};
 use crate::number::shortest;
 
 /// What a field is, which decides its range.
@@ -57,13 +57,15 @@ fn head(kind: u32, unit: u32, tenancy: u32) -> Vec<Field> {
     ]
 }
 
-pub fn settings(unit: u32, tenancy: u32, disks: &[Disk]) -> Vec<Field> {
-    let mut fields = head(1, unit, tenancy);
-    fields.push(Field::new(Role::DiskCount, disks.len() as u32));
-    for disk in disks {
-        fields.push(Field::new(Role::Cost, disk.cost));
-        fields.push(Field::new(Role::Load, disk.load));
-        fields.push(Field::new(Role::Delay, disk.delay));
+/// Of kind 1 or 5, by the rule.
+pub fn settings(unit: u32, tenancy: u32, table: &Table) -> Vec<Field> {
+    let kind = if table.rule == Rule::Sum { 1 } else { 5 };
+    let mut fields = head(kind, unit, tenancy);
+    fields.push(Field::new(Role::DiskCount, table.rows.len() as u32));
+    for row in &table.rows {
+        fields.push(Field::new(Role::Cost, row.cost));
+        fields.push(Field::new(Role::Load, row.load));
+        fields.push(Field::new(Role::Delay, row.delay));
     }
     fields
 }

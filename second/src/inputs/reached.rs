@@ -542,6 +542,7 @@ fn the_writers_are_refused_for_every_fault() {
         ("load", "cost high"),
     ];
     check_writer("settings", settings_faults, &settings, &together);
+    check_writer("larger", settings_faults, &settings, &together);
     let request = [
         "kind", "tenancy", "broken", "age", "N low", "N high", "Q", "no bits", "bits", "bit at N",
     ];

@@ -3,7 +3,7 @@
 use crate::inputs::damage::{self, Fault, FAULTS};
 use crate::inputs::fields::{bytes, request, settings, with_length, Field, Role};
 use crate::inputs::whole::{self, Case};
-use crate::model::{disks_of, Disk};
+use crate::model::{disks_of, Row, Rule, Table};
 use crate::number::shortest;
 use crate::random::Random;
 use crate::shelf::MOST_ROOM;
@@ -116,7 +116,7 @@ impl Hire {
 
     fn settings(&mut self, random: &mut Random) -> Vec<u8> {
         let case = whole::any(random);
-        let mut fields = settings(self.number, self.last, &case.disks);
+        let mut fields = settings(self.number, self.last, &case.table);
         maybe_damage(random, &mut fields);
         let sheet = bytes(&fields);
         self.case = case;
@@ -140,7 +140,7 @@ impl Hire {
 
     fn request(&mut self, random: &mut Random) -> Vec<u8> {
         let copies = self.copies(random);
-        let age = whole::age(random, &self.case.disks);
+        let age = whole::age(random, &self.case.table.rows);
         let mut fields = request(self.number, self.last, age, &copies);
         maybe_damage(random, &mut fields);
         let sheet = bytes(&fields);
@@ -159,7 +159,7 @@ impl Hire {
     /// A block and one of its disks, another disk, or numbers out of range; the request may be damaged or an old one.
     fn reason(&mut self, random: &mut Random) -> Vec<u8> {
         let copies = self.copies(random);
-        let age = whole::age(random, &self.case.disks);
+        let age = whole::age(random, &self.case.table.rows);
         let mut fields = request(self.number, self.last, age, &copies);
         maybe_damage(random, &mut fields);
         let mut sheet = bytes(&fields);
@@ -224,7 +224,7 @@ impl Hire {
 
     /// A call with which the stream itself is damaged, most likely.
     fn damaged_call(&mut self, random: &mut Random) -> Vec<u8> {
-        let age = whole::age(random, &self.case.disks);
+        let age = whole::age(random, &self.case.table.rows);
         let sheet = request(self.number, self.last, age, &self.case.copies);
         let kind = *random.pick(&[1, 2, 2, 2, 3, 3, 3, 3, 4, 5, 5, 5, 0, 6]);
         let mut fields = vec![Field::new(Role::Kind, kind)];
@@ -287,6 +287,7 @@ pub fn systematic() -> Vec<Stream> {
     let whole = example();
     let all = bytes(&whole);
     let mut streams = in_each_state();
+    streams.extend(one_after_another());
     streams.extend((0..=all.len()).map(|length| vec![all[..length].to_vec()]));
     for fault in FAULTS {
         for place in 0..whole.len() {
@@ -326,6 +327,7 @@ fn in_each_state() -> Vec<Stream> {
         calls(&[3, 0], &read),
         calls(&[3, 99], &nothing),
         calls(&[2], &table),
+        calls(&[2], &settings(700, 300, &example_table(Rule::Larger))),
         rooms(&read),
         rooms(&nothing),
         calls(&[5, 0, 0], &read),
@@ -354,9 +356,76 @@ fn in_each_state() -> Vec<Stream> {
         .to_vec()
 }
 
+/// Settings sheets of a unit, one for each thing that they can say.
+fn tables() -> Vec<Table> {
+    let row = |cost, load, delay| Row { cost, load, delay };
+    let narrow = vec![row(4, 90, 60), row(3, 60, 90)];
+    let wide = vec![row(4, 90, 60), row(5, 60, 90), row(2, 70, 70)];
+    let mut tables = Vec::new();
+    for rule in [Rule::Sum, Rule::Larger] {
+        tables.extend([&narrow, &wide].map(|rows| Table {
+            rule,
+            rows: rows.clone(),
+        }));
+    }
+    tables
+}
+
+/// Every two tables one after the other in a hire, which is then returned and another begun with each: all as before.
+fn one_after_another() -> Vec<Stream> {
+    let asked = |tenancy| {
+        let mut calls: Stream = Vec::new();
+        for age in [None, Some(0), Some(29), Some(30), Some(31), Some(91)] {
+            for copies in [&[3, 3, 1][..], &[3, 6, 4, 1], &[]] {
+                let sheet = bytes(&with_length(&request(700, tenancy, age, copies)));
+                calls.push([vec![3, 99], sheet.clone()].concat());
+                calls.push([vec![5, 0, 1], sheet].concat());
+            }
+        }
+        calls
+    };
+    let set = |tenancy, table: &Table| {
+        let sheet = bytes(&with_length(&settings(700, tenancy, table)));
+        vec![[vec![2], sheet].concat()]
+    };
+    let call = |kind, tenancy| vec![[shortest(kind), shortest(tenancy)].concat()];
+    let mut streams = Vec::new();
+    for first in tables() {
+        for second in tables() {
+            let hire = |tenancy: u32, table: &Table| {
+                [
+                    call(1, tenancy),
+                    asked(tenancy),
+                    set(tenancy, table),
+                    asked(tenancy),
+                ]
+                .concat()
+            };
+            streams.push(
+                [
+                    vec![shortest(700)],
+                    hire(300, &first),
+                    set(300, &second),
+                    asked(300),
+                    call(4, 300),
+                    set(300, &first),
+                    hire(301, &second),
+                ]
+                .concat(),
+            );
+        }
+    }
+    streams
+}
+
+fn example_table(rule: Rule) -> Table {
+    let row = |cost, load, delay| Row { cost, load, delay };
+    let rows = vec![row(4, 0, 1), row(3, 200, 0), row(10, 7, 6)];
+    Table { rule, rows }
+}
+
 fn example_sheets() -> (Vec<Field>, Vec<Field>) {
-    let row = |cost, load, delay| Disk { cost, load, delay };
-    let table = settings(700, 300, &[row(4, 0, 1), row(3, 200, 0), row(10, 0, 0)]);
+    let table = settings(700, 300, &example_table(Rule::Sum));
     (table, request(700, 300, None, &[3, 3, 6]))
 }
 

@@ -1,28 +1,44 @@
 //! Whole tables and requests, by family.
 
-use crate::model::{Disk, MOST_BLOCKS, MOST_COST, MOST_DELAY, MOST_DISKS, MOST_LOAD};
+use crate::model::{
+    Disk, Row, Rule, Table, MOST_BLOCKS, MOST_COST, MOST_DELAY, MOST_DISKS, MOST_LOAD,
+};
 use crate::random::Random;
 
 #[derive(Clone, Debug)]
 pub struct Case {
-    pub disks: Vec<Disk>,
+    pub table: Table,
     pub copies: Vec<u64>,
 }
 
+impl Case {
+    /// The disks for a request of age 0.
+    pub fn disks(&self) -> Vec<Disk> {
+        self.table.disks(0)
+    }
+}
+
+/// The rows with either rule.
+fn ruled(random: &mut Random, rows: Vec<Row>) -> Table {
+    let rule = *random.pick(&[Rule::Sum, Rule::Larger]);
+    Table { rule, rows }
+}
+
 /// A table with values up to the given ones.
-pub fn table(random: &mut Random, disks: u32, cost: u32, load: u32, delay: u32) -> Vec<Disk> {
-    let mut row = || Disk {
+pub fn table(random: &mut Random, disks: u32, cost: u32, load: u32, delay: u32) -> Table {
+    let mut row = || Row {
         cost: random.within(1, cost),
         load: random.within(0, load),
         delay: random.within(0, delay),
     };
-    (0..disks).map(|_| row()).collect()
+    let rows = (0..disks).map(|_| row()).collect();
+    ruled(random, rows)
 }
 
 /// An age about the loads of a table: none, equal to one of them, one less or more, larger than all.
-pub fn age(random: &mut Random, disks: &[Disk]) -> Option<u32> {
-    let load = random.pick(disks).load;
-    let most = disks.iter().map(|disk| disk.load).max().unwrap_or(0);
+pub fn age(random: &mut Random, rows: &[Row]) -> Option<u32> {
+    let load = random.pick(rows).load;
+    let most = rows.iter().map(|row| row.load).max().unwrap_or(0);
     match random.within(1, 16) {
         1..=6 => None,
         7 => Some(0),
@@ -64,7 +80,7 @@ pub fn small(random: &mut Random) -> Case {
     );
     let count = random.within(0, 7);
     Case {
-        disks: table(random, disks, cost, load, delay),
+        table: table(random, disks, cost, load, delay),
         copies: blocks(random, count, 3, disks),
     }
 }
@@ -76,7 +92,7 @@ pub fn medium(random: &mut Random) -> Case {
     let delay = *random.pick(&[0, 10, 1_000, MOST_DELAY]);
     let (count, most) = (random.within(1, 90), random.within(1, 8));
     Case {
-        disks: table(random, disks, cost, load, delay),
+        table: table(random, disks, cost, load, delay),
         copies: blocks(random, count, most, disks),
     }
 }
@@ -85,16 +101,16 @@ pub fn medium(random: &mut Random) -> Case {
 pub fn largest(random: &mut Random) -> Case {
     let cost = *random.pick(&[1, 3, 1_000, MOST_COST]);
     let load = *random.pick(&[0, 50, MOST_LOAD]);
-    let disks = table(random, MOST_DISKS, cost, load, MOST_DELAY / 100);
+    let table = table(random, MOST_DISKS, cost, load, MOST_DELAY / 100);
     let copies = (0..MOST_BLOCKS)
         .map(|_| choose(random, 8, 0, MOST_DISKS - 1))
         .collect();
-    Case { disks, copies }
+    Case { table, copies }
 }
 
 /// Every value on its sheet as long as it can be.
 pub fn longest(random: &mut Random) -> Case {
-    let row = Disk {
+    let row = Row {
         cost: MOST_COST,
         load: MOST_LOAD,
         delay: MOST_DELAY,
@@ -105,7 +121,7 @@ pub fn longest(random: &mut Random) -> Case {
         1 << random.within(0, 63)
     };
     Case {
-        disks: vec![row; 64],
+        table: ruled(random, vec![row; 64]),
         copies: vec![copies; MOST_BLOCKS as usize],
     }
 }
@@ -122,7 +138,7 @@ pub fn contended(random: &mut Random) -> Case {
         copies.push(choose(random, held, low, low + hot - 1));
     }
     Case {
-        disks: table(random, disks, 20, 40, 10),
+        table: table(random, disks, 20, 40, 10),
         copies,
     }
 }
@@ -130,10 +146,10 @@ pub fn contended(random: &mut Random) -> Case {
 /// One row for all disks.
 pub fn equal(random: &mut Random) -> Case {
     let disks = random.within(1, 16);
-    let row = table(random, 1, 12, 12, 12)[0];
+    let row = table(random, 1, 12, 12, 12).rows[0];
     let (count, most) = (random.within(1, 60), random.within(1, 5));
     Case {
-        disks: vec![row; disks as usize],
+        table: ruled(random, vec![row; disks as usize]),
         copies: blocks(random, count, most, disks),
     }
 }
@@ -141,26 +157,26 @@ pub fn equal(random: &mut Random) -> Case {
 /// Low costs with loads near the highest, some idle disks that must not count.
 pub fn loaded(random: &mut Random) -> Case {
     let count = random.within(2, 20);
-    let mut disks = table(random, count, 3, 50, 5);
-    for disk in &mut disks {
+    let mut table = table(random, count, 3, 50, 5);
+    for row in &mut table.rows {
         if random.once_in(2) {
-            disk.load = MOST_LOAD - disk.load;
+            row.load = MOST_LOAD - row.load;
         }
         if random.once_in(3) {
-            disk.delay = MOST_DELAY - disk.delay;
+            row.delay = MOST_DELAY - row.delay;
         }
     }
     let blocks_count = random.within(1, 50);
     Case {
         copies: blocks(random, blocks_count, 4, count),
-        disks,
+        table,
     }
 }
 
 pub fn no_blocks(random: &mut Random) -> Case {
     let disks = random.within(1, MOST_DISKS);
     Case {
-        disks: table(random, disks, MOST_COST, MOST_LOAD, MOST_DELAY),
+        table: table(random, disks, MOST_COST, MOST_LOAD, MOST_DELAY),
         copies: Vec::new(),
     }
 }
@@ -168,7 +184,7 @@ pub fn no_blocks(random: &mut Random) -> Case {
 pub fn one_disk(random: &mut Random) -> Case {
     let count = random.within(1, 60);
     Case {
-        disks: table(random, 1, MOST_COST, MOST_LOAD, MOST_DELAY),
+        table: table(random, 1, MOST_COST, MOST_LOAD, MOST_DELAY),
         copies: vec![1; count as usize],
     }
 }
@@ -183,7 +199,7 @@ pub fn chained(random: &mut Random) -> Case {
         copies.insert(at, 1);
     }
     Case {
-        disks: table(random, disks, 3, 3, 3),
+        table: table(random, disks, 3, 3, 3),
         copies,
     }
 }
@@ -191,16 +207,16 @@ pub fn chained(random: &mut Random) -> Case {
 /// Every value at one end of its range.
 pub fn edges(random: &mut Random) -> Case {
     let disks = *random.pick(&[1, 2, 63, 64]);
-    let row = |random: &mut Random| Disk {
+    let row = |random: &mut Random| Row {
         cost: *random.pick(&[1, MOST_COST]),
         load: *random.pick(&[0, MOST_LOAD]),
         delay: *random.pick(&[0, MOST_DELAY]),
     };
-    let table = (0..disks).map(|_| row(random)).collect();
+    let rows = (0..disks).map(|_| row(random)).collect();
     let count = random.within(1, 40);
     let most = *random.pick(&[1, 8]);
     Case {
-        disks: table,
+        table: ruled(random, rows),
         copies: blocks(random, count, most, disks),
     }
 }

@@ -19,7 +19,7 @@ returns c =
     let at-fours3 = c .before .before .before .before .before .before .before in
     let at-fours2 = at-fours3 .before in
     let at-fours = at-fours2 .before in
-    settings-sent _ _
+    settings-sent _ _ _
     (part-numbers 4 _ _ _ (at-fours .fours .ensures))
     (part-numbers 4 _ _ _ (at-fours2 .fours2 .ensures))
     (part-numbers 4 _ _ _ (at-fours3 .fours3 .ensures)) (c .before .before .write .ensures)

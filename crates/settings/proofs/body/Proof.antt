@@ -4,34 +4,36 @@ use Prim.Native.Nat.{_-_}
 use native.Mathlib.Omega.{arith}
 use borrow.Author.Needs.{needs}
 use Rattle.field.proofs.Readers.{told-got, told-refused}
-use Rattle.settings.proofs.Reading.{Rows, rows-start, rows-step, rows-stop, rows-extra, rows-told, told-none, row-told-got}
-use Rattle.settings.proofs.Reading.{row-told-refused}
+use Rattle.settings.specs.Parts.{toldRow}
+use Rattle.settings.proofs.Reading.{told-by, Rows, rows-start, rows-step, rows-stop, rows-extra, rows-told, told-none}
 use Rattle.settings.proofs.body.Statement.{statement}
 use Rattle.settings.proofs.body.Tie as tie
 
 abbrev Inv-loop : tie.InvT-loop
-Inv-loop s start disks rows₀ at₀ n i₀ rows at i = Rows disks s start rows at i × (n ≡ disks)
+Inv-loop s start rows₀ at₀ disks rule n i₀ rows at i = Rows (record { disks = disks; rule = rule }) s start rows at i × (n ≡ disks)
 
 abbrev μ-loop : tie.MeasureT-loop
-μ-loop s start disks rows₀ at₀ n i₀ rows at i = disks - i
+μ-loop s start rows₀ at₀ disks rule n i₀ rows at i = disks - i
 
 loop-holds : tie.Need-loop-holds Inv-loop μ-loop
 loop-holds c = (rows-start _ _ _ (c .before .empty .ensures), refl)
 
 returns : tie.Need-returns Inv-loop μ-loop
+unfolding toldRow
 returns c =
     let turn = c .before .before .before .before in
     told-none _
     (rows-stop (turn .before .before .loop .inv .0) (omega arith)
-    (row-told-refused (turn .row-at .ensures) (c .before .before .e .given .1)))
+    (told-by toldRow (turn .row-at .ensures) (c .before .before .e .given .1)))
     (c .refuse .ensures)
 
 loop-again : tie.Need-loop-again Inv-loop μ-loop
+unfolding toldRow
 loop-again c =
     let turn = c .before .before .before in
     let so-far = turn .before .before .loop .inv in
     let start = turn .before .before .before .before .before .before in
-    (rows-step (so-far .0) (start .pre) (omega arith) (row-told-got (turn .row-at .ensures) (c .before .r .given .1)), so-far .1)
+    (rows-step (so-far .0) (start .pre) (omega arith) (told-by toldRow (turn .row-at .ensures) (c .before .r .given .1)), so-far .1)
 
 returns-2 : tie.Need-returns-2 Inv-loop μ-loop
 returns-2 c =
@@ -52,6 +54,7 @@ body-spec =
     Inv-loop
     μ-loop
     (λ c κs. search needs)
+    (λ c. search needs)
     loop-holds
     (λ c κs. search needs)
     (λ c. search needs)

@@ -10,7 +10,7 @@ use Rattle.settings.proofs.write.Statement.{statement}
 use Rattle.settings.proofs.write.Tie as tie
 
 returns : tie.Need-returns
-returns c = write-unfit _ _ _ _ _ _ (sym (c .before .lists-fit .ensures) ∙ not-true _ (c .if1 .taken))
+returns c = write-unfit _ _ _ _ _ _ _ (sym (c .before .lists-fit .ensures) ∙ not-true _ (c .if1 .taken))
 
 rows-width-requires : tie.Need-rows-width-requires
 rows-width-requires c κs =
@@ -19,7 +19,7 @@ rows-width-requires c κs =
 returns-2 : tie.Need-returns-2
 returns-2 c =
     let fit = lists-fit (sym (c .before .before .before .lists-fit .ensures) ∙ not-false _ (c .before .before .if1 .left)) in
-    write-out _ _ _ _ _ _ fit (c .before .rows-width .ensures) (c .if2 .taken)
+    write-out _ _ _ _ _ _ _ fit (c .before .rows-width .ensures) (c .if2 .taken)
 
 add-length : tie.Need-add-length
 add-length c =
@@ -48,7 +48,7 @@ returns-3 : tie.Need-returns-3
 returns-3 c =
     let told = c .before .before .before .before in
     let fit = lists-fit (sym (told .before .before .lists-fit .ensures) ∙ not-false _ (told .before .if1 .left)) in
-    write-long _ _ _ _ _ _ fit (told .rows-width .ensures) (c .before .before .before .if2 .left)
+    write-long _ _ _ _ _ _ _ fit (told .rows-width .ensures) (c .before .before .before .if2 .left)
     (c .before .before .width .ensures) (c .before .width2 .ensures) (c .if3 .taken)
 
 cast-put-heading : tie.Need-cast-put-heading
@@ -61,7 +61,7 @@ put-heading-requires c κs =
     let told = c .before .before .before .before .before in
     let fit = lists-fit (sym (told .before .before .lists-fit .ensures) ∙ not-false _ (told .before .if1 .left)) in
     let out = told .before .before .before .before .before .before .before .args .out .now in
-    heading-room _ _ _ _ _ out fit (told .rows-width .ensures) (c .before .before .before .before .if2 .left)
+    heading-room _ _ _ _ _ _ out fit (told .rows-width .ensures) (c .before .before .before .before .if2 .left)
     (c .before .before .before .width .ensures) (c .before .before .width2 .ensures) (c .before .if3 .left)
 
 put-rows-requires : tie.Need-put-rows-requires
@@ -71,7 +71,7 @@ put-rows-requires c κs =
     let told = tested .before .before .before .before in
     let fit = lists-fit (sym (told .before .before .lists-fit .ensures) ∙ not-false _ (told .before .if1 .left)) in (
       (fit .loads, fit .delays),
-      rows-room _ _ _ _ _ _ fit (told .rows-width .ensures) (tested .before .before .before .if2 .left)
+      rows-room _ _ _ _ _ _ _ fit (told .rows-width .ensures) (tested .before .before .before .if2 .left)
           (tested .before .before .width .ensures) (tested .before .width2 .ensures) (tested .if3 .left)
           (at-put-heading .put-heading .ensures),
     )
@@ -82,7 +82,7 @@ returns-4 c =
     let tested = at-put-heading .before .before in
     let told = tested .before .before .before .before in
     let fit = lists-fit (sym (told .before .before .lists-fit .ensures) ∙ not-false _ (told .before .if1 .left)) in
-    write-done _ _ _ _ _ _ fit (told .rows-width .ensures) (tested .before .before .before .if2 .left)
+    write-done _ _ _ _ _ _ _ fit (told .rows-width .ensures) (tested .before .before .before .if2 .left)
     (tested .before .before .width .ensures) (tested .before .width2 .ensures) (tested .if3 .left)
     (at-put-heading .put-heading .ensures) (c .before .before .put-rows .ensures)
 
