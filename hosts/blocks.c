@@ -262,3 +262,25 @@ uint32_t blocks_sheet(const struct blocks *blocks, uint32_t unit, uint32_t tenan
     }
     return rp_length(answer);
 }
+
+bool blocks_in_use(const struct blocks *blocks, uint64_t out)
+{
+    struct faults faults = faults_new();
+    struct bytes disks = bytes_new();
+    const char *text;
+    for (size_t i = 0; i < blocks->count; i++) {
+        const struct block *block = &blocks->list[i];
+        if (block->copies & ~out)
+            continue;
+        disks.len = 0;
+        add_disks(&disks, block->copies);
+        faults_add(&faults, "%s%s: block %zu: its disk%s out:%s", blocks->name, line_of(block).text, i,
+            ones(block->copies) == 1 ? " is" : "s are", bytes_text(&disks));
+    }
+    text = faults_text(&faults);
+    if (text != NULL)
+        say_refused(RP_ALL_OUT, text, remedy_here(RP_ALL_OUT, NO_SORT));
+    faults_free(&faults);
+    bytes_free(&disks);
+    return text == NULL;
+}

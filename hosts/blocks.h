@@ -37,6 +37,9 @@ void blocks_free(struct blocks *blocks);
 uint32_t blocks_sheet(const struct blocks *blocks, uint32_t unit, uint32_t tenancy, uint32_t disks,
     uint8_t sheet[RP_LONGEST_REQUEST]);
 
+/* Whether every block has a copy on a disk in use; or says, as the unit would, which have not. */
+bool blocks_in_use(const struct blocks *blocks, uint64_t out);
+
 /* Adds the disks of a set as words: " 0 1 5". */
 void add_disks(struct bytes *text, uint64_t copies);
 

@@ -9,7 +9,7 @@
 #include "remedy.h"
 #include "say.h"
 
-const struct expected ANYTHING = { NULL, NULL, RP_MOST_DISKS, NO_SORT, false };
+const struct expected ANYTHING = { .disks = RP_MOST_DISKS };
 const char SAYS_OTHERWISE[] = "the library says otherwise of this sheet: tell us, with the sheet";
 
 /* Where the reader is. */
@@ -150,6 +150,7 @@ static const struct kind {
     [KIND_PLAN] = { PLAN, "plan", "a plan" },
     [KIND_AGED] = { REQUEST, "read request with an age", "a read request with an age" },
     [KIND_OVERLAP] = { SETTINGS, "settings, each disk starts at the larger of delay and load", "a settings sheet" },
+    [KIND_MARKED] = { SETTINGS, "settings with a start rule and marks", "a settings sheet" },
 };
 
 static enum sort sort_of(uint32_t kind)
@@ -165,7 +166,7 @@ static bool read_head(struct reader *r)
     if (!take(r))
         return false;
     if (sort_of(r->value) == NO_SORT)
-        return REFUSE(r, RP_WRONG_KIND, "it is %s; settings are 1 or 5, a read request 2 or 4, a plan 3",
+        return REFUSE(r, RP_WRONG_KIND, "it is %s; settings are 1, 5 or 6, a read request 2 or 4, a plan 3",
             grouped(r->value).text);
     if (r->expected->sort != NO_SORT && sort_of(r->value) != r->expected->sort)
         return REFUSE(r, RP_WRONG_KIND, "it is %u, %s", (unsigned)r->value, KINDS[r->value].one);
@@ -198,32 +199,62 @@ static bool read_head(struct reader *r)
     return true;
 }
 
-static bool read_settings(struct reader *r)
+/* How disks start: by the kind, or by the rule that it has. */
+static bool read_start(struct reader *r)
 {
     struct contents *c = r->contents;
     c->start = c->kind == KIND_OVERLAP ? LARGER : SUM;
+    if (c->kind != KIND_MARKED)
+        return true;
+    next_is(r, "the start rule");
+    if (!take_within(r, RP_BAD_AMOUNT, RP_START_SUM, RP_START_LARGER))
+        return false;
+    c->start = (enum start)r->value;
+    put_line(r, "start rule %u: each disk starts at the %s of delay and load", (unsigned)c->start,
+        start_name(c->start));
+    return true;
+}
+
+/* One amount of a disk. */
+static bool read_amount(struct reader *r, const char *name, uint32_t disk, uint32_t least, uint32_t most,
+    uint32_t *value)
+{
+    next_is(r, "the %s of disk %u", name, (unsigned)disk);
+    if (!take_within(r, RP_BAD_AMOUNT, least, most))
+        return false;
+    *value = r->value;
+    return true;
+}
+
+static bool read_row(struct reader *r, uint32_t disk)
+{
+    struct row *row = &r->contents->rows[disk];
+    const bool marked = r->contents->kind == KIND_MARKED;
+    uint32_t mark = RP_IN_USE;
+    if (!read_amount(r, "cost", disk, 1, RP_MOST_COST, &row->cost)
+        || !read_amount(r, "load", disk, 0, RP_MOST_LOAD, &row->load)
+        || !read_amount(r, "delay", disk, 0, RP_MOST_DELAY, &row->delay)
+        || (marked && !read_amount(r, "mark", disk, RP_IN_USE, RP_OUT, &mark)))
+        return false;
+    row->out = mark == RP_OUT;
+    put_line(r, "disk %u: cost %s, load %s, delay %s%s", (unsigned)disk, grouped(row->cost).text,
+        grouped(row->load).text, grouped(row->delay).text, !marked ? "" : row->out ? ", out" : ", in use");
+    return true;
+}
+
+static bool read_settings(struct reader *r)
+{
+    struct contents *c = r->contents;
     next_is(r, "the number of disks N");
     if (!take_within(r, RP_OUT_OF_RANGE, 1, RP_MOST_DISKS))
         return false;
     c->count = r->value;
     put_line(r, "N: %u disk%s", (unsigned)c->count, c->count == 1 ? "" : "s");
-    for (uint32_t d = 0; d < c->count; d++) {
-        struct row *row = &c->rows[d];
-        next_is(r, "the cost of disk %u", (unsigned)d);
-        if (!take_within(r, RP_BAD_AMOUNT, 1, RP_MOST_COST))
+    if (!read_start(r))
+        return false;
+    for (uint32_t d = 0; d < c->count; d++)
+        if (!read_row(r, d))
             return false;
-        row->cost = r->value;
-        next_is(r, "the load of disk %u", (unsigned)d);
-        if (!take_within(r, RP_BAD_AMOUNT, 0, RP_MOST_LOAD))
-            return false;
-        row->load = r->value;
-        next_is(r, "the delay of disk %u", (unsigned)d);
-        if (!take_within(r, RP_BAD_AMOUNT, 0, RP_MOST_DELAY))
-            return false;
-        row->delay = r->value;
-        put_line(r, "disk %u: cost %s, load %s, delay %s", (unsigned)d, grouped(row->cost).text,
-            grouped(row->load).text, grouped(row->delay).text);
-    }
     return true;
 }
 
@@ -248,6 +279,8 @@ static bool read_block(struct reader *r, uint32_t block)
         r->contents->copies[block] |= (uint64_t)1 << before;
         snprintf(disks + strlen(disks), sizeof disks - strlen(disks), " %u", (unsigned)before);
     }
+    if ((r->contents->copies[block] & ~r->expected->out) == 0)
+        return REFUSE(r, RP_ALL_OUT, "all copies of block %u are on disks that are out:%s", (unsigned)block, disks);
     put_line(r, "block %u: %u cop%s, disk%s%s", (unsigned)block, (unsigned)copies, copies == 1 ? "y" : "ies",
         copies == 1 ? "" : "s", disks);
     return true;
@@ -392,10 +425,23 @@ void contents_read(const struct bytes *sheet, const struct expected *expected, s
         put_rest(&r);
 }
 
+/* What settings say as a table, whose rows are theirs and stay as they are. */
+static struct table table_of(const struct contents *c)
+{
+    return (struct table){ .rows = (struct row *)(void *)c->rows, .count = c->sort == SETTINGS ? c->count : 0,
+        .kind = c->kind, .start = c->start, .marked = c->kind == KIND_MARKED };
+}
+
+uint64_t contents_out(const struct contents *contents)
+{
+    const struct table table = table_of(contents);
+    return table_out(&table);
+}
+
 bool contents_is_of(const struct bytes *sheet, enum sort sort, uint32_t unit, uint32_t tenancy)
 {
     struct contents contents = { .kind = 0 };
-    const struct expected expected = { &unit, &tenancy, RP_MOST_DISKS, sort, false };
+    const struct expected expected = { .unit = &unit, .tenancy = &tenancy, .disks = RP_MOST_DISKS, .sort = sort };
     struct reader r = { sheet, &expected, &contents, NULL, 0, 0, 0, 0 };
     return read_head(&r);
 }
@@ -441,8 +487,9 @@ bool contents_table(const struct bytes *sheet, const char *name, struct expected
         return false;
     }
     bytes_add(&rows, contents.rows, contents.count * sizeof contents.rows[0]);
-    *table = (struct table){ .name = name, .rows = (struct row *)(void *)rows.at, .count = contents.count,
-        .kind = contents.kind, .start = contents.start };
+    *table = table_of(&contents);
+    table->name = name;
+    table->rows = (struct row *)(void *)rows.at;
     return true;
 }
 
@@ -479,15 +526,9 @@ static bool same(uint64_t answer, const uint8_t *written, const struct bytes *sh
 
 static bool library_writes_settings(const struct bytes *sheet, const struct contents *c)
 {
-    uint8_t lists[3][4 * RP_MOST_DISKS], written[RP_LONGEST_SETTINGS];
-    size_t len = 4 * c->count;
-    for (uint32_t d = 0; d < c->count; d++) {
-        rp_put32(lists[0], d, c->rows[d].cost);
-        rp_put32(lists[1], d, c->rows[d].load);
-        rp_put32(lists[2], d, c->rows[d].delay);
-    }
-    return same((c->start == LARGER ? rp_write_settings_overlap : rp_write_settings)(c->unit, c->tenancy, lists[0], len,
-        lists[1], len, lists[2], len, written, sizeof written), written, sheet);
+    uint8_t written[RP_LONGEST_SETTINGS];
+    const struct table table = table_of(c);
+    return same(table_write(&table, c->unit, c->tenancy, written), written, sheet);
 }
 
 static bool library_writes_request(const struct bytes *sheet, const struct contents *c, uint32_t disks)

@@ -17,7 +17,10 @@
 
 /* What a sheet may be, and the kinds that it may have, by the number that it begins with. */
 enum sort { NO_SORT, SETTINGS, REQUEST, PLAN };
-enum { KIND_SETTINGS = 1, KIND_REQUEST = RP_REQUEST, KIND_PLAN = 3, KIND_AGED = RP_AGED_REQUEST, KIND_OVERLAP = 5 };
+enum {
+    KIND_SETTINGS = 1, KIND_REQUEST = RP_REQUEST, KIND_PLAN = 3, KIND_AGED = RP_AGED_REQUEST, KIND_OVERLAP = 5,
+    KIND_MARKED = 6
+};
 
 /* What is expected of a sheet; null for anything. */
 struct expected {
@@ -26,6 +29,7 @@ struct expected {
     uint32_t disks;         /* N for a request, 64 where it is not known, 0 where there are no settings yet */
     enum sort sort;         /* NO_SORT for any of the three */
     bool not_rented;        /* every tenancy is refused */
+    uint64_t out;           /* the disks that are out, for a request */
 };
 extern const struct expected ANYTHING;
 
@@ -51,6 +55,9 @@ struct contents {
 /* Reads a sheet; the fields are added to `text` line by line, with their places, unless it is null. */
 void contents_read(const struct bytes *sheet, const struct expected *expected, struct contents *contents,
     struct bytes *text);
+
+/* The disks that settings have out; bit d stands for disk d. */
+uint64_t contents_out(const struct contents *contents);
 
 /* Whether the first three fields are those of a sheet of this sort, unit and tenancy. */
 bool contents_is_of(const struct bytes *sheet, enum sort sort, uint32_t unit, uint32_t tenancy);

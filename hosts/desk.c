@@ -23,13 +23,14 @@ static const char *const HELP[] = {
     "TABLE is a file of CSV, by default standard input, parted by commas, semicolons or tabs. Its\n"
     "first line names the columns cost, load and delay, in any order; then a line for each disk, 1\n"
     "to 64 of them, in whole microseconds: cost of a block 1 to 1,000,000, load 0 to 100,000,000,\n"
-    "delay 0 to 1,000,000. A column disk may say each disk's number, and is then checked. What\n"
-    "follows a # is a comment; comments and empty lines are passed over. A settings sheet will do\n"
-    "too, and is written for UNIT and TENANCY.\n"
+    "delay 0 to 1,000,000. A column disk may say each disk's number, and is then checked. A column\n"
+    "out may say of each disk 0 or in, for one in use, or 1 or out, for one that was pulled, from\n"
+    "which no block is then read. What follows a # is a comment; comments and empty lines are passed\n"
+    "over. A settings sheet will do too, and is written for UNIT and TENANCY.\n"
     "\n"
-    "    disk,cost,load,delay\n"
-    "    0,4,0,1\n"
-    "    1,3,2,0      # a comment\n"
+    "    disk,cost,load,delay,out\n"
+    "    0,4,0,1,in\n"
+    "    1,3,2,0,out  # a comment\n"
     "\n"
     "--start says for the whole unit how a disk's start comes from its delay and its load: sum, after\n"
     "each other, which is usual; or larger, where newer controllers hand the request to the disk at\n"
@@ -66,6 +67,8 @@ static int settings(char **words)
         return STATUS_BAD;
     if (start_word != NULL)
         table.start = start;
+    else if (table.kind == KIND_OVERLAP || table.kind == KIND_MARKED)
+        say("%s: its start is kept, %s; --start gives another", table.name, start_name(table.start));
     len = table_sheet(&table, unit, tenancy, sheet);
     table_free(&table);
     return len > 0 && output_bytes(out, sheet, len) ? STATUS_DONE : STATUS_BAD;

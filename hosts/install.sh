@@ -42,7 +42,7 @@ for page in "$here"/man/*.[13]; do
     chmod 644 "$to/share/man/man${name##*.}/$name"
 done
 # The library's page under the name of each function.
-for name in rp_write_settings rp_write_settings_overlap rp_write_request rp_read_plan rp_version; do
+for name in rp_write_settings rp_write_settings_overlap rp_write_settings_marked rp_write_request rp_read_plan rp_version; do
     echo '.so man3/rippleplank.3' >"$to/share/man/man3/$name.3"
 done
 echo "installed to $to; the programs need PATH=$prefix/bin:\$PATH, pkg-config PKG_CONFIG_PATH=$prefix/lib/pkgconfig"

@@ -64,8 +64,15 @@ void plan_json(const struct view *view, struct bytes *text)
     add_named(text, "time", plan->time);
     if (view->table != NULL && view->table->aged)
         add_named(text, "age", view->table->age);
-    if (view->table != NULL && view->table->start != SUM)
+    if (view->table != NULL)
         bytes_addf(text, ",\"start_rule\":\"%s\"", start_name(view->table->start));
+    if (view->table != NULL && view->table->marked) {
+        bytes_addf(text, ",\"out\":[");
+        for (uint32_t d = 0; d < view->table->count; d++)
+            if (view->table->rows[d].out)
+                add_number(text, d);
+        bytes_addf(text, "]");
+    }
     bytes_addf(text, ",\"disk_of_block\":[");
     for (uint32_t b = 0; b < plan->blocks; b++)
         add_number(text, plan->disk[b]);

@@ -5,12 +5,23 @@
 #include "input.h"
 #include "say.h"
 
+static bool says_no_number(const char *what, const char *word, const char *more)
+{
+    say("%s has to be a whole number of 0 to 4,294,967,295, not \"%s\"%s", what, shown(span_of(word)).text, more);
+    return false;
+}
+
 bool word_number(const char *what, const char *word, uint32_t *value)
 {
-    if (number_of(span_of(word), value))
-        return true;
-    say("%s has to be a whole number of 0 to 4,294,967,295, not \"%s\"", what, shown(span_of(word)).text);
-    return false;
+    return number_of(span_of(word), value) || says_no_number(what, word, "");
+}
+
+bool word_age(const char *what, const char *word, uint32_t *age)
+{
+    const size_t digits = strspn(word, "0123456789");
+    const bool too_large = digits > 0 && word[digits] == '\0';
+    return number_of(span_of(word), age) || says_no_number(what, word, too_large ? "; an age of 100,000,000 (100 seconds) "
+        "or more leaves nothing of any load: give that for anything older" : "");
 }
 
 /* The option of a word: its name or, where it has a value, its name and = and the value. */

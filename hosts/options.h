@@ -19,4 +19,7 @@ bool options_read(char **words, const char **places, size_t least, size_t most, 
 /* A word that has to be a 32-bit number. */
 bool word_number(const char *what, const char *word, uint32_t *value);
 
+/* The same of an age; of one that is too large it says what to give. */
+bool word_age(const char *what, const char *word, uint32_t *age);
+
 #endif

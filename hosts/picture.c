@@ -150,6 +150,10 @@ static void draw_disk(const struct view *view, struct bytes *svg, uint32_t disk)
     uint64_t at = start_of(view->table, disk), end = end_of(view->table, disk, plan->counts[disk]);
     draw_text(svg, EDGE, base_of(disk), "font-weight=\"600\"", plain(disk).text);
     draw_text(svg, LEFT - 14, base_of(disk), "text-anchor=\"end\"", grouped(row->cost).text);
+    if (row->out) {
+        draw_out(svg, disk);
+        return;
+    }
     if (plan->counts[disk] == 0) {
         draw_text(svg, RIGHT + 12, base_of(disk), "class=\"faint\"", "idle");
         return;
@@ -185,19 +189,23 @@ static void draw_legend(const struct view *view, struct bytes *svg)
 {
     const struct plan *plan = view->plan;
     struct bytes label = bytes_new();
-    if (view->table->start == LARGER)
+    const char *wait = view->table->aged ? "delay, load left" : "delay and load";
+    int left = EDGE;
+    if (view->table->start == LARGER) {
+        wait = view->table->aged ? "delay (above), load left (below)" : "delay (above), load (below)";
+        left = EDGE + 80;
         draw_overlap(svg, EDGE, 50, 34, 22, "", "");
-    else
+    } else {
         draw_wait(svg, EDGE, 50, 34);
-    draw_text(svg, EDGE + 42, 65, "", view->table->aged ? "delay, load left"
-        : view->table->start == LARGER ? "delay over load" : "delay and load");
-    draw_box(svg, "block", EDGE + 152, 50, 34, BAR);
+    }
+    draw_text(svg, EDGE + 42, 65, "", wait);
+    draw_box(svg, "block", left + 152, 50, 34, BAR);
     bytes_addf(svg, "/>\n");
-    draw_text(svg, EDGE + 194, 65, "", "block");
-    draw_box(svg, "short", EDGE + 252, 50, 34, BAR);
+    draw_text(svg, left + 194, 65, "", "block");
+    draw_box(svg, "short", left + 252, 50, 34, BAR);
     bytes_addf(svg, "/>\n");
     bytes_addf(&label, "block of the short set: %u of %u", (unsigned)plan->short_size, (unsigned)plan->blocks);
-    draw_text(svg, EDGE + 294, 65, "", (char *)label.at);
+    draw_text(svg, left + 294, 65, "", (char *)label.at);
     bytes_free(&label);
 }
 
@@ -229,17 +237,17 @@ static void add_short(const struct view *view, struct bytes *words)
     bytes_addf(words, " of the %u.", (unsigned)plan->short_size);
 }
 
-/* What stands under the picture: that, and how the starts come about. */
+/* What stands under the picture: that, and what else there is to know of the disks. */
 static void add_words(const struct view *view, struct bytes *words)
 {
-    struct bytes starts = bytes_new();
+    struct bytes remarks = bytes_new();
     add_short(view, words);
-    add_starts(&starts, view->table);
-    for (char *one = bytes_text(&starts), *end; *one != '\0'; one = end + 1) {
+    add_remarks(&remarks, view->table);
+    for (char *one = bytes_text(&remarks), *end; *one != '\0'; one = end + 1) {
         end = strchr(one, '\n');
         bytes_addf(words, "%s%c%.*s.", words->len > 0 ? "\n" : "", *one - 'a' + 'A', (int)(end - one - 1), one + 1);
     }
-    bytes_free(&starts);
+    bytes_free(&remarks);
 }
 
 static void draw_title(const struct plan *plan, struct bytes *svg, double height)

@@ -12,7 +12,7 @@
 static void say_place(const char *name, const struct found *found, uint32_t unit, uint32_t tenancy, uint64_t answer)
 {
     static struct contents contents;
-    const struct expected expected = { &unit, &tenancy, RP_MOST_DISKS, PLAN, false };
+    const struct expected expected = { .unit = &unit, .tenancy = &tenancy, .disks = RP_MOST_DISKS, .sort = PLAN };
     struct bytes whose = bytes_new();
     bytes_addf(&whose, "%s", name);
     if (found->line > 0)
@@ -74,12 +74,7 @@ static uint64_t latest_end(const struct plan *plan, const struct table *table)
 }
 
 static const char OTHER_TABLE[] = "it is another unit's table, or an older one, or the plan is damaged";
-static const char NO_AGE[] =
-    "it is another unit's table, or an older one, or the request has an age (--age), or the plan is damaged";
-static const char OTHER_AGE[] =
-    "it is another unit's table, or an older one, or the request has another age, or the plan is damaged";
 static const char OTHER_LIST[] = "it is another request's plan, or it is damaged";
-static const char OTHER_AGED[] = "it is another request's plan, or the request has another age, or it is damaged";
 static const char OTHER_CALLS[] = "the line is damaged, or answers other calls";
 
 /* Adds a fault: of the table or list that the plan is held against or, with calls, of the line where the plan stands. */
@@ -112,35 +107,44 @@ static bool none_said(struct faults *faults, struct bytes *fault)
 /* Adds when a plan ends by a table that is not its own. */
 static void add_end(struct bytes *text, const struct plan *plan, const struct table *table)
 {
-    struct table other = *table;
-    other.start = table->start == SUM ? LARGER : SUM;
     bytes_addf(text, " it ends at %s", grouped(latest_end(plan, table)).text);
     if (table->start == LARGER)
         bytes_addf(text, ", with each start the larger of delay and load");
     if (table->aged)
         bytes_addf(text, ", with the loads at an age of %s", grouped(table->age).text);
-    if (table->kind == 0 && latest_end(plan, &other) == plan->time)
-        bytes_addf(text, " (with --start %s it ends there)", start_name(other.start));
+}
+
+/* Adds what may be the matter with a plan that ends at another time by a table; among it is what nothing tells. */
+static void add_causes(struct bytes *text, const struct table *table)
+{
+    bytes_addf(text, "it is another unit's table, or an older one%s%s, or the plan is damaged",
+        table->start_told ? "" : ", or its disks start at the larger (--start larger)",
+        table->aged ? ", or the request has another age" : table->age_told ? "" : ", or the request has an age (--age)");
 }
 
 bool plan_fits(const struct plan *plan, const struct table *table)
 {
     struct faults faults = faults_new();
-    struct bytes fault = bytes_new();
-    for (uint32_t d = (uint32_t)table->count; d < RP_MOST_DISKS && faults.count == 0; d++) {
-        if (plan->counts[d] == 0)
+    struct bytes fault = bytes_new(), causes = bytes_new();
+    for (uint32_t d = 0; d < RP_MOST_DISKS && faults.count == 0; d++) {
+        if (plan->counts[d] == 0 || (d < table->count && !table->rows[d].out))
             continue;
         bytes_addf(&fault, "the plan reads from disk %u, and by ", (unsigned)d);
         add_held(&fault, plan, "this table", "the settings in ");
-        bytes_addf(&fault, " the last is disk %zu", table->count - 1);
+        if (d < table->count)
+            bytes_addf(&fault, " it is out");
+        else
+            bytes_addf(&fault, " the last is disk %zu", table->count - 1);
         add_fault(&faults, plan, table->name, &fault, OTHER_TABLE);
     }
     if (faults.count == 0 && latest_end(plan, table) != plan->time) {
         bytes_addf(&fault, "the plan's time is %s, and by ", grouped(plan->time).text);
         add_held(&fault, plan, "this table", "the settings in ");
         add_end(&fault, plan, table);
-        add_fault(&faults, plan, table->name, &fault, table->aged ? OTHER_AGE : NO_AGE);
+        add_causes(&causes, table);
+        add_fault(&faults, plan, table->name, &fault, bytes_text(&causes));
     }
+    bytes_free(&causes);
     return none_said(&faults, &fault);
 }
 
@@ -180,7 +184,7 @@ bool plan_reason(const struct plan *plan, const struct blocks *blocks, const str
     *reason = (struct reason){ 0, { 0 }, 0 };
     for (uint32_t b = 0; b < plan->blocks; b++)
         if (plan->is_short[b])
-            reason->disks |= blocks->list[b].copies;
+            reason->disks |= blocks->list[b].copies & ~table_out(table);
     for (uint32_t d = 0; d < table->count; d++) {
         if (reason->disks >> d & 1)
             reason->room[d] = room_of(table, d, plan->time - 1);
@@ -193,7 +197,10 @@ bool plan_reason(const struct plan *plan, const struct blocks *blocks, const str
         "room for %s", grouped(plan->time - 1).text, (unsigned)plan->short_size, plan->short_size == 1 ? "" : "s",
         grouped(reason->sum).text);
     if (plan->calls == NULL)
-        say("%s (%s, %s); %s", bytes_text(&fault), table->name, blocks->name, table->aged ? OTHER_AGED : OTHER_LIST);
+        say("%s (%s, %s); it is another request's plan%s%s%s, or it is damaged", bytes_text(&fault), table->name, blocks->name,
+            table->start == LARGER && !table->start_sure ? ", or its disks start otherwise (--start)" : "",
+            table->aged ? ", or the request has another age" : "",
+            table->kind == 0 && !table->marked ? ", or a disk was out that this table has in use" : "");
     else
         say("%s:%u: %s, by the settings in %s; %s", plan->name, plan->line, bytes_text(&fault), plan->calls, OTHER_CALLS);
     bytes_free(&fault);
@@ -225,8 +232,15 @@ struct digits range(uint32_t first, uint32_t last)
     return word;
 }
 
-void add_starts(struct bytes *text, const struct table *table)
+void add_remarks(struct bytes *text, const struct table *table)
 {
+    const uint64_t out = table_out(table);
+    if (out != 0) {
+        bytes_addf(text, "disk%s", (out & (out - 1)) == 0 ? "" : "s");
+        add_disks(text, out);
+        bytes_addf(text, (out & (out - 1)) == 0 ? " is out: no block is read from it\n"
+            : " are out: no block is read from them\n");
+    }
     if (table->start == LARGER)
         bytes_addf(text, "each disk starts at the larger of its delay and its load\n");
     if (table->aged)

@@ -25,7 +25,7 @@ struct plan {
     unsigned line;
 };
 
-/* Why R is least: the disks that hold any block of the short set, and their room one microsecond before R. */
+/* Why R is least: the disks in use that hold any block of the short set, and their room one microsecond before R. */
 struct reason {
     uint64_t disks;                     /* bit d stands for disk d */
     uint64_t room[RP_MOST_DISKS];
@@ -51,7 +51,7 @@ uint64_t start_of(const struct table *table, uint32_t disk);
 /* When a disk has read so many blocks; an idle disk ends at 0, whatever its load. */
 uint64_t end_of(const struct table *table, uint32_t disk, uint32_t blocks);
 
-/* Whether a table is the plan's: it has every disk, and the latest end is R; or says why not. */
+/* Whether a table is the plan's: it has every disk in use, and the latest end is R; or says why not. */
 bool plan_fits(const struct plan *plan, const struct table *table);
 
 /* Whether every block is read from a disk that holds it; or says which are not. */
@@ -73,8 +73,8 @@ uint32_t run_end(const struct plan *plan, uint32_t first);
 /* A run as a word: 5, or 5-9. */
 struct digits range(uint32_t first, uint32_t last);
 
-/* Adds how starts come about, where not by the sum of delay and load as they are: a line for each sentence. */
-void add_starts(struct bytes *text, const struct table *table);
+/* Adds which disks are out, and how starts come about where not by the sum of delay and load as they are: lines. */
+void add_remarks(struct bytes *text, const struct table *table);
 
 /* Adds the short set as words: " 0-6 16". */
 void add_short_set(struct bytes *text, const struct plan *plan);

@@ -8,7 +8,12 @@
 
 bool question_holds(const struct question *q, uint32_t block, uint32_t disk)
 {
-    return disk < RP_MOST_DISKS && (q->blocks.list[block].copies >> disk & 1);
+    return disk < RP_MOST_DISKS && ((q->blocks.list[block].copies & ~table_out(&q->table)) >> disk & 1);
+}
+
+bool question_out(const struct question *q, uint32_t block, uint32_t disk)
+{
+    return disk < RP_MOST_DISKS && ((q->blocks.list[block].copies & table_out(&q->table)) >> disk & 1);
 }
 
 bool question_unanswered(const struct question *q, uint32_t block, uint32_t disk)
@@ -96,7 +101,8 @@ static const char *against(const struct question *q, const struct pair *p)
 {
     const uint32_t chosen = question_chosen(q, p->block);
     if ((p->reason == NO_COPY) == question_holds(q, p->block, p->disk))
-        return p->reason == NO_COPY ? "the request has a copy there" : "the request has no copy there";
+        return p->reason == NO_COPY ? "the request has a copy there" : question_out(q, p->block, p->disk)
+            ? "the disk is out" : "the request has no copy there";
     if (p->reason == NO_COPY)
         return NULL;
     if (p->reason == NOT_KEPT && p->block == 0)
@@ -283,7 +289,7 @@ static bool answered(const struct sheets *sheets, uint32_t unit)
 
 bool question_read(const struct sheets *sheets, uint32_t unit, uint32_t tenancy, uint32_t nth, struct question *q)
 {
-    const struct expected expected = { &unit, &tenancy, RP_MOST_DISKS, NO_SORT, false };
+    const struct expected expected = { .unit = &unit, .tenancy = &tenancy, .disks = RP_MOST_DISKS };
     const struct why *first;
     memset(q, 0, sizeof *q);
     if (!answered(sheets, unit) || (first = choose(sheets, unit, tenancy, nth)) == NULL)

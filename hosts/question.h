@@ -46,8 +46,9 @@ const struct pair *question_pair(const struct question *question, uint32_t block
 /* Whether a block and a disk were asked about, and the lines end before the answer. */
 bool question_unanswered(const struct question *question, uint32_t block, uint32_t disk);
 
-/* Whether a disk holds a copy of a block. */
+/* Whether a disk in use holds a copy of a block, and whether one does that is out. */
 bool question_holds(const struct question *question, uint32_t block, uint32_t disk);
+bool question_out(const struct question *question, uint32_t block, uint32_t disk);
 
 /* The disk that the plan reads a block from; RP_MOST_DISKS where it is not known. */
 uint32_t question_chosen(const struct question *question, uint32_t block);

@@ -36,9 +36,11 @@ static const struct remedy REMEDIES[] = {
     [RP_NOT_ABOVE] = { NULL, "rent with a tenancy number above all earlier ones" },
     [RP_NOT_THE_TENANT] = { NULL, "return with the tenancy number that the unit is rented under" },
     [RP_BAD_AMOUNT] = { "the sheet has a time that no such sheet can have; fetch it again",
-        "correct that cost, load or delay in the table; write the settings again" },
+        "correct that cost, load, delay, rule or mark in the table; write the settings again" },
     [RP_BAD_INDEX] = { "the sheet names a disk or block that is not there; fetch it again",
         "the list is of another unit, or the settings are too short; name only disks that the settings have" },
+    [RP_ALL_OUT] = { "name a copy of that block on a disk in use, or put one of its disks back in use in the settings",
+        "name a copy of that block on a disk in use, or send settings that have one of its disks in use again" },
 };
 
 /* The row of a refusal, or an empty one. */
@@ -72,6 +74,18 @@ const char *remedy_at_shelf(unsigned refusal, bool rented)
     if (refusal == RP_NOT_THE_TENANT && !rented)
         return "nothing, if nobody has rented the unit; else return with the tenancy number that it is rented under";
     return words != NULL ? words : "use the tools of the same version as the shelf";
+}
+
+const char *remedy_at_older(uint32_t kind)
+{
+    switch (kind) {
+    case KIND_AGED: return "use a newer shelf: one older than this kind refuses it; or write the request without --age";
+    case KIND_OVERLAP: return "use a newer shelf: one older than this kind refuses it; or write the settings without "
+        "--start larger";
+    case KIND_MARKED: return "use a newer shelf: one older than this kind refuses it; or, if no disk is out, write the "
+        "settings without the column out";
+    default: return NULL;
+    }
 }
 
 const char *why_stopped(unsigned number)

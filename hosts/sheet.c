@@ -48,6 +48,7 @@ struct reading {
     const struct calls *sent;   /* the calls, null where they are not known */
     uint32_t tenancy;       /* the last one by lines and calls, while rented the one that the unit has */
     uint32_t disks;         /* N, by lines and calls; 0 before any settings */
+    uint64_t out;           /* the disks that are out */
     const struct call *settings;    /* the call that set them; null where it is not known */
     const struct call *read;        /* whose sheet was read last, since the unit changed; null for none */
     enum sort read_as;      /* and what it was read as */
@@ -109,7 +110,7 @@ static const struct contents *read_sent(struct reading *r)
     static struct contents contents;
     const struct call *call = call_of(r);
     const enum sort sort = call->kind == CALL_SETTINGS ? SETTINGS : REQUEST;
-    const struct expected expected = { &r->sent->unit, &r->tenancy, r->disks, sort, !r->rented };
+    const struct expected expected = { &r->sent->unit, &r->tenancy, r->disks, sort, !r->rented, r->out };
     if (call->kind == CALL_RENT || call->kind == CALL_RETURN)
         return NULL;
     if (r->read == NULL || r->read_as != sort || !call_same_sheet(r->read, call))
@@ -171,6 +172,14 @@ static void add_room(const struct call *call, const struct refusal *refusal, str
         bytes_addf(field, "the plan needs more than the %s bytes that the buffer has", grouped(call->number).text);
 }
 
+/* What to do where an older shelf may have refused the kind of a call's sheet, which is right in itself; else null. */
+static const char *older_remedy(struct reading *r, const struct refusal *refusal)
+{
+    const struct contents *contents = call_of(r) == NULL || !says(refusal, RP_WRONG_KIND, 0) ? NULL : read_sent(r);
+    const bool kept = contents != NULL && !says(refusal, contents->refusal, contents->place);
+    return kept ? remedy_at_older(contents->kind) : NULL;
+}
+
 /* Adds what was refused in a call's sheet that is right in itself; false where nothing is. */
 static bool add_beside(const struct reading *r, const struct contents *contents, const struct refusal *refusal,
     struct bytes *field)
@@ -198,6 +207,11 @@ static bool add_field(struct reading *r, struct refusal *refusal, struct bytes *
             add_hire(r, call_of(r), field);
         return same;
     }
+    if (older_remedy(r, refusal) != NULL) {
+        bytes_addf(field, "the kind: it is %u, which an older shelf does not know", (unsigned)contents->kind);
+        refusal->place = 0;
+        return true;
+    }
     if (contents->refusal == RP_ACCEPTED)
         return add_beside(r, contents, refusal, field);
     if (!says(refusal, contents->refusal, contents->place))
@@ -211,6 +225,7 @@ static bool add_field(struct reading *r, struct refusal *refusal, struct bytes *
 static void add_refusal(struct reading *r, unsigned line, struct refusal refusal)
 {
     struct bytes *told = &r->sheets->told, field = bytes_new();
+    const char *older = older_remedy(r, &refusal);
     const bool sent = call_of(r) != NULL, named = sent && add_field(r, &refusal, &field);
     const bool known = refusal.placed || named, no_room = refusal.number == RP_NO_ROOM;
     const bool of_pair = known && refusal.number == RP_BAD_INDEX && refusal.place == 0; /* where a sheet has its kind */
@@ -233,7 +248,7 @@ static void add_refusal(struct reading *r, unsigned line, struct refusal refusal
             bytes_addf(told, "\n  the line has no place: it is of an older shelf, or was cut%s",
                 at_byte ? "; the place is the calls'" : "");
         bytes_addf(told, "\n  what to do: %s\n", of_pair ? "ask about a block of the request and a disk of the settings"
-            : remedy_at_shelf(refusal.number, r->rented));
+            : older != NULL ? older : remedy_at_shelf(refusal.number, r->rented));
     }
     bytes_free(&field);
 }
@@ -276,7 +291,11 @@ static void accept(struct reading *r, unsigned line, uint32_t kind)
     }
     call = call_of(r);
     if (kind == CALL_SETTINGS) {
-        r->disks = call == NULL ? r->disks : read_sent(r)->count;
+        if (call != NULL) {
+            const struct contents *contents = read_sent(r);
+            r->disks = contents->count;
+            r->out = contents_out(contents);
+        }
         r->settings = call;
         r->read = NULL;
     }
@@ -284,6 +303,7 @@ static void accept(struct reading *r, unsigned line, uint32_t kind)
         r->rented = kind == CALL_RENT;
         r->tenancy = call == NULL ? 0 : call->number;
         r->disks = 0;
+        r->out = 0;
         r->settings = NULL;
         r->read = NULL;
     }

@@ -110,7 +110,7 @@ static bool put_each(struct bytes *out, const char *name, struct which block, st
     const struct bytes *sheet)
 {
     static struct contents request;
-    const struct expected expected = { NULL, NULL, RP_MOST_DISKS, REQUEST, false };
+    const struct expected expected = { .disks = RP_MOST_DISKS, .sort = REQUEST };
     contents_read(sheet, &expected, &request, NULL);
     if (request.refusal != RP_ACCEPTED) {
         contents_say(&request, name, remedy_here(request.refusal, request.sort));

@@ -78,6 +78,14 @@ void draw_lane(struct bytes *svg, uint32_t row)
     bytes_addf(svg, "/>\n");
 }
 
+void draw_out(struct bytes *svg, uint32_t row)
+{
+    const double y = row_top(row) + ROW / 2.0;
+    bytes_addf(svg, "<line class=\"hatch\" stroke-dasharray=\"2 6\" x1=\"%d\" y1=\"%.2f\" x2=\"%d\" y2=\"%.2f\"/>\n",
+        LEFT, y, RIGHT, y);
+    draw_text(svg, RIGHT + 12, base_of(row), "font-weight=\"600\"", "out");
+}
+
 /* The distance of the axis's marks: 1, 2 or 5 and noughts, so that there are at most eight. */
 static uint64_t step_of(uint64_t time)
 {

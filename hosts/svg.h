@@ -36,6 +36,9 @@ void draw_line(struct bytes *svg, const char *class, double x1, double y1, doubl
 /* The ground that a row's boxes stand on. */
 void draw_lane(struct bytes *svg, uint32_t row);
 
+/* A row whose disk is out: struck through, and said so beside it. */
+void draw_out(struct bytes *svg, uint32_t row);
+
 /* The start of a picture: its page of a height, and its title. */
 void draw_head(struct bytes *svg, const char *title, double height);
 

@@ -12,7 +12,7 @@
 #include "remedy.h"
 #include "say.h"
 
-enum { DISK, COST, LOAD, DELAY, COLUMNS, NO_COLUMN = COLUMNS };
+enum { DISK, COST, LOAD, DELAY, OUT, COLUMNS, NO_COLUMN = COLUMNS };
 
 static const struct {
     const char *name;
@@ -22,6 +22,7 @@ static const struct {
     [COST] = { "cost", 1, RP_MOST_COST },
     [LOAD] = { "load", 0, RP_MOST_LOAD },
     [DELAY] = { "delay", 0, RP_MOST_DELAY },
+    [OUT] = { "out", RP_IN_USE, RP_OUT },
 };
 
 /* How the cells of a line stand. */
@@ -91,14 +92,14 @@ static void read_names(struct reading *r, unsigned number, struct span line)
         unsigned column = column_of(cells.cell[i]);
         r->layout.column[i] = column;
         if (column == NO_COLUMN && cells.cell[i].len > 0)
-            BAD(r, "%s:%u: there is no column \"%s\"; a table has cost, load and delay, and disk if you like",
+            BAD(r, "%s:%u: there is no column \"%s\"; a table has cost, load and delay, and disk and out if you like",
                 r->name, number, shown(cells.cell[i]).text);
         else if (column < COLUMNS && r->layout.has[column])
             BAD(r, "%s:%u: two columns are called %s", r->name, number, COLUMN[column].name);
         else if (column < COLUMNS)
             r->layout.has[column] = true;
     }
-    for (unsigned column = COST; column < COLUMNS; column++)
+    for (unsigned column = COST; column <= DELAY; column++)
         if (!r->layout.has[column])
             BAD(r, "%s:%u: the column %s is missing: %s", r->name, number, COLUMN[column].name, FIRST_LINE);
 }
@@ -120,11 +121,27 @@ static void add_row_faults(struct faults *faults, const char *name, const struct
     add_outside(faults, name, row, disk, DELAY, row->delay);
 }
 
+/* A mark: 0 or in, 1 or out. */
+static bool mark_of(struct span cell, uint32_t *value)
+{
+    if (span_is_any_case(cell, "in") || span_is(cell, "0"))
+        *value = RP_IN_USE;
+    else if (span_is_any_case(cell, "out") || span_is(cell, "1"))
+        *value = RP_OUT;
+    else
+        return false;
+    return true;
+}
+
 /* One cell's number; where it is none the value stays what it is. */
 static void read_cell(struct reading *r, unsigned number, size_t disk, unsigned column, struct span cell,
     uint32_t *value)
 {
-    if (!number_of(cell, value))
+    if (column == OUT) {
+        if (!mark_of(cell, value))
+            BAD(r, "%s:%u: disk %zu: \"%s\" does not say whether it is out; write 0 or in for a disk in use, 1 or out "
+                "for one that was pulled", r->name, number, disk, shown(cell).text);
+    } else if (!number_of(cell, value))
         BAD(r, "%s:%u: disk %zu: the %s \"%s\" is not a whole number of %u to %s", r->name, number, disk,
             COLUMN[column].name, shown(cell).text, (unsigned)COLUMN[column].least,
             grouped(COLUMN[column].most).text);
@@ -151,7 +168,7 @@ static bool right_width(struct reading *r, unsigned number, const struct cells *
 static void read_row(struct reading *r, unsigned number, const struct cells *cells)
 {
     size_t disk = r->rows.len / sizeof(struct row);
-    uint32_t value[COLUMNS + 1] = { (uint32_t)disk, 1, 0, 0, 0 };
+    uint32_t value[COLUMNS + 1] = { [DISK] = (uint32_t)disk, [COST] = 1 };
     struct row row;
     bool good = right_width(r, number, cells);
     for (size_t i = 0; good && i < r->layout.width; i++) {
@@ -165,7 +182,7 @@ static void read_row(struct reading *r, unsigned number, const struct cells *cel
     if (value[DISK] != disk)
         BAD(r, "%s:%u: disk %u stands where disk %zu is due; give every disk a row, in order", r->name, number,
             (unsigned)value[DISK], disk);
-    row = (struct row){ value[COST], value[LOAD], value[DELAY], number };
+    row = (struct row){ value[COST], value[LOAD], value[DELAY], value[OUT] == RP_OUT, number };
     add_row_faults(&r->faults, r->name, &row, disk);
     bytes_add(&r->rows, &row, sizeof row);
 }
@@ -182,7 +199,7 @@ static bool is_row_in_comment(const struct reading *r, struct span line)
     if (cells.count != r->layout.width || cells.count > MOST_CELLS)
         return false;
     for (size_t i = 0; i < cells.count; i++)
-        if (!number_of(cells.cell[i], &value))
+        if (!number_of(cells.cell[i], &value) && !(r->layout.column[i] == OUT && mark_of(cells.cell[i], &value)))
             return false;
     return true;
 }
@@ -244,7 +261,7 @@ static void tell_passed_over(const struct reading *r)
         return;
     if (r->commented > 0)
         say("%s:%u: a row in a comment is no disk: the rows below it have moved up; a column disk would keep the "
-            "numbers", r->name, r->commented);
+            "numbers, and a column out takes a disk out of use", r->name, r->commented);
     if (r->gaps.count > 0)
         say("%s:%u: an empty line is no disk (%u such); a column disk would keep the numbers", r->name,
             r->gaps.first, r->gaps.count);
@@ -260,7 +277,7 @@ static bool read_text(const struct bytes *text, const char *name, struct table *
     } else {
         tell_passed_over(&r);
         *table = (struct table){ .name = name, .rows = (struct row *)(void *)r.rows.at,
-            .count = r.rows.len / sizeof(struct row), .start = SUM };
+            .count = r.rows.len / sizeof(struct row), .start = SUM, .marked = r.layout.has[OUT] };
     }
     faults_free(&r.faults);
     return !r.unreadable;
@@ -305,12 +322,42 @@ bool start_named(const char *word, enum start *start)
     return false;
 }
 
+uint64_t table_out(const struct table *table)
+{
+    uint64_t out = 0;
+    for (size_t i = 0; i < table->count && i < RP_MOST_DISKS; i++)
+        out |= (uint64_t)table->rows[i].out << i;
+    return out;
+}
+
 void table_age(struct table *table, uint32_t age)
 {
     for (size_t i = 0; i < table->count; i++)
         table->rows[i].load = table->rows[i].load < age ? 0 : table->rows[i].load - age;
     table->aged = true;
     table->age = age;
+}
+
+uint64_t table_write(const struct table *table, uint32_t unit, uint32_t tenancy, uint8_t sheet[RP_LONGEST_SETTINGS])
+{
+    size_t len = 4 * table->count;
+    struct bytes lists = bytes_new();
+    uint8_t *costs = bytes_more(&lists, 4 * len), *loads = costs + len, *delays = loads + len, *marks = delays + len;
+    uint64_t answer;
+    for (size_t i = 0; i < table->count; i++) {
+        rp_put32(costs, i, table->rows[i].cost);
+        rp_put32(loads, i, table->rows[i].load);
+        rp_put32(delays, i, table->rows[i].delay);
+        rp_put32(marks, i, table->rows[i].out ? RP_OUT : RP_IN_USE);
+    }
+    if (table->marked)
+        answer = rp_write_settings_marked(unit, tenancy, table->start, costs, len, loads, len, delays, len, marks, len,
+            sheet, RP_LONGEST_SETTINGS);
+    else
+        answer = (table->start == LARGER ? rp_write_settings_overlap : rp_write_settings)(unit, tenancy, costs, len,
+            loads, len, delays, len, sheet, RP_LONGEST_SETTINGS);
+    bytes_free(&lists);
+    return answer;
 }
 
 /* Says why a table was refused, with everything that is out of range: a writer tells no place, the lines do. */
@@ -335,21 +382,9 @@ static void say_fault(const struct table *table, uint32_t tenancy, uint64_t answ
     faults_free(&faults);
 }
 
-uint32_t table_sheet(const struct table *table, uint32_t unit, uint32_t tenancy,
-    uint8_t sheet[RP_LONGEST_SETTINGS])
+uint32_t table_sheet(const struct table *table, uint32_t unit, uint32_t tenancy, uint8_t sheet[RP_LONGEST_SETTINGS])
 {
-    size_t len = 4 * table->count;
-    struct bytes lists = bytes_new();
-    uint8_t *costs = bytes_more(&lists, 3 * len), *loads = costs + len, *delays = loads + len;
-    uint64_t answer;
-    for (size_t i = 0; i < table->count; i++) {
-        rp_put32(costs, i, table->rows[i].cost);
-        rp_put32(loads, i, table->rows[i].load);
-        rp_put32(delays, i, table->rows[i].delay);
-    }
-    answer = (table->start == LARGER ? rp_write_settings_overlap : rp_write_settings)(unit, tenancy, costs, len, loads,
-        len, delays, len, sheet, RP_LONGEST_SETTINGS);
-    bytes_free(&lists);
+    const uint64_t answer = table_write(table, unit, tenancy, sheet);
     if (rp_refusal(answer) != RP_ACCEPTED) {
         say_fault(table, tenancy, answer);
         return 0;

@@ -103,7 +103,7 @@ static int request(char **words)
     struct blocks blocks;
     if (!options_read(words, places, 3, 4, options) || !word_number("UNIT", places[0], &unit)
         || !word_number("TENANCY", places[1], &tenancy) || !word_number("DISKS", places[2], &disks)
-        || (age_word != NULL && !word_number("--age", age_word, &age)))
+        || (age_word != NULL && !word_age("--age", age_word, &age)))
         return program_usage();
     if (!blocks_read(places[3], &ANYTHING, &blocks))
         return STATUS_BAD;
@@ -143,7 +143,7 @@ static bool read_wish(char **words, struct wish *w)
         || !word_number("TENANCY", w->places[1], &w->tenancy)
         || (w->nth != NULL && !word_number("--nth", w->nth, &w->number))
         || (w->start_word != NULL && !start_named(w->start_word, &w->start))
-        || (w->age_word != NULL && !word_number("--age", w->age_word, &w->age)))
+        || (w->age_word != NULL && !word_age("--age", w->age_word, &w->age)))
         return false;
     if (w->nth != NULL && w->number == 0)
         say("--nth counts from 1");
@@ -168,6 +168,7 @@ struct sent {
     uint32_t request, settings;     /* the kinds */
     uint32_t age;
     enum start start;
+    uint64_t out;
 };
 
 static void take_sent(const struct wish *w, const struct found *found, struct sent *sent)
@@ -183,6 +184,7 @@ static void take_sent(const struct wish *w, const struct found *found, struct se
         contents_read(&found->settings->sheet, &ANYTHING, &contents, NULL);
         sent->settings = contents.kind;
         sent->start = contents.start;
+        sent->out = contents_out(&contents);
     }
 }
 
@@ -208,16 +210,19 @@ static bool read_plan(const struct wish *w, struct plan *plan, struct sent *sent
 static bool read_table(const char *path, const struct plan *plan, struct table *table)
 {
     uint8_t sheet[RP_LONGEST_SETTINGS];
-    const struct expected expected = { &plan->unit, &plan->tenancy, RP_MOST_DISKS, NO_SORT, false };
+    const struct expected expected = { .unit = &plan->unit, .tenancy = &plan->tenancy, .disks = RP_MOST_DISKS };
     return table_read(path, &expected, table) && table_sheet(table, plan->unit, plan->tenancy, sheet) > 0;
 }
 
-/* Reads the plan's request, which has to be one that a unit of so many disks would take. */
-static bool read_request(const char *path, const struct plan *plan, uint32_t disks, struct blocks *blocks)
+/* Reads the plan's request, which has to be one that a unit of this table, if it is not null, would take. */
+static bool read_request(const char *path, const struct plan *plan, const struct table *table, struct blocks *blocks)
 {
     static uint8_t sheet[RP_LONGEST_REQUEST];
-    const struct expected expected = { &plan->unit, &plan->tenancy, disks, NO_SORT, false };
-    return blocks_read(path, &expected, blocks) && blocks_sheet(blocks, plan->unit, plan->tenancy, disks, sheet) > 0;
+    const struct expected expected = { .unit = &plan->unit, .tenancy = &plan->tenancy,
+        .disks = table == NULL ? RP_MOST_DISKS : (uint32_t)table->count, .out = table == NULL ? 0 : table_out(table) };
+    return blocks_read(path, &expected, blocks)
+        && blocks_sheet(blocks, plan->unit, plan->tenancy, expected.disks, sheet) > 0
+        && blocks_in_use(blocks, expected.out);
 }
 
 /* Where something is told: an option, a sheet or the calls. */
@@ -252,6 +257,7 @@ static bool take_age(const struct wish *w, const struct blocks *blocks, const st
             grouped(other->value).text, other->name);
         return false;
     }
+    table->age_told = first != NULL;
     if (aged)
         table_age(table, first->value);
     return true;
@@ -268,9 +274,28 @@ static bool take_start(const struct wish *w, const struct sent *sent, struct tab
             first->name, start_name((enum start)other->value), other->name);
         return false;
     }
+    table->start_told = first != NULL;
+    table->start_sure = table->kind != 0 || sent->settings != 0;
     if (first != NULL)
         table->start = (enum start)first->value;
     return true;
+}
+
+/* Takes which disks are out from the calls, where they tell it and the table does not. */
+static bool take_out(const struct sent *sent, struct table *table)
+{
+    struct bytes out = bytes_new();
+    const bool told = table->marked || table->kind != 0, same = table_out(table) == sent->out;
+    if (sent->settings != 0 && told && !same) {
+        add_disks(&out, table_out(table) ^ sent->out);
+        say("%s and %s do not have the same disks out: they differ in%s", table->name, sent->name, bytes_text(&out));
+    } else if (sent->settings != 0 && !told) {
+        table->marked = sent->out != 0;
+        for (uint32_t d = 0; d < table->count; d++)
+            table->rows[d].out = sent->out >> d & 1;
+    }
+    bytes_free(&out);
+    return sent->settings == 0 || !told || same;
 }
 
 /* Reads what the plan is held against, and holds it. */
@@ -278,11 +303,11 @@ static bool read_rest(const struct wish *w, const struct plan *plan, const struc
     struct blocks *blocks, struct reason *reason)
 {
     const bool by_table = w->disks != NULL, by_request = w->request != NULL;
-    if (by_table && !read_table(w->disks, plan, table))
+    if (by_table && (!read_table(w->disks, plan, table) || !take_start(w, sent, table) || !take_out(sent, table)))
         return false;
-    if (by_request && !read_request(w->request, plan, by_table ? (uint32_t)table->count : RP_MOST_DISKS, blocks))
+    if (by_request && !read_request(w->request, plan, by_table ? table : NULL, blocks))
         return false;
-    return (!by_table || (take_start(w, sent, table) && take_age(w, blocks, sent, table) && plan_fits(plan, table)))
+    return (!by_table || (take_age(w, blocks, sent, table) && plan_fits(plan, table)))
         && (!by_request || plan_holds(plan, blocks))
         && (!by_table || !by_request || plan_reason(plan, blocks, table, reason));
 }
@@ -388,7 +413,9 @@ static void say_none(const struct why_wish *w, const struct sheets *sheets)
 {
     const struct choice *c = &w->choice;
     struct bytes more = bytes_new();
-    if (c->of_block && c->of_disk && !question_holds(c->question, c->block, c->disk))
+    if (c->of_block && c->of_disk && question_out(c->question, c->block, c->disk))
+        bytes_addf(&more, "; disk %u is out", (unsigned)c->disk);
+    else if (c->of_block && c->of_disk && !question_holds(c->question, c->block, c->disk))
         bytes_addf(&more, "; the request has no copy of block %u on disk %u", (unsigned)c->block, (unsigned)c->disk);
     if (is_unanswered(c))
         say("%s: no answer: the call for it is in %s, and the lines end before it%s", sheets->name, sheets->sent.name,

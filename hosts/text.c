@@ -84,6 +84,17 @@ static void show_disk(const struct view *view, uint32_t disk, uint32_t most, str
     bytes_addf(text, "\n");
 }
 
+/* The disks that hold a block, those that are out apart. */
+static void show_copies(struct bytes *text, uint64_t copies, uint64_t out)
+{
+    bytes_addf(text, " ");
+    add_disks(text, copies & ~out);
+    if (copies & out) {
+        bytes_addf(text, ", out:");
+        add_disks(text, copies & out);
+    }
+}
+
 /* Each run of blocks: its disk and, with a request, the disks that hold it. */
 static void show_blocks(const struct view *view, struct bytes *text)
 {
@@ -96,10 +107,8 @@ static void show_blocks(const struct view *view, struct bytes *text)
             if (view->blocks->list[i].copies != view->blocks->list[b].copies)
                 last = i - 1;
         bytes_addf(text, "%-10s  %4u", run_word(plan, b, last).text, plan->disk[b]);
-        if (view->blocks != NULL) {
-            bytes_addf(text, " ");
-            add_disks(text, view->blocks->list[b].copies);
-        }
+        if (view->blocks != NULL)
+            show_copies(text, view->blocks->list[b].copies, view->table == NULL ? 0 : table_out(view->table));
         bytes_addf(text, "\n");
     }
 }
@@ -160,23 +169,34 @@ static void draw_line(const struct plan *plan, const struct table *table, uint32
     }
 }
 
-/* What the marks of the timeline are, and how the starts come about. */
+/* Whether nothing tells how disks start, and it is not the same for all in use. */
+static bool start_is_open(const struct table *table)
+{
+    for (size_t d = 0; d < table->count && !table->start_told; d++)
+        if (!table->rows[d].out && table->rows[d].load > 0 && table->rows[d].delay > 0)
+            return true;
+    return false;
+}
+
+/* What the marks of the timeline are, and what else there is to know of the disks. */
 static void show_marks(const struct view *view, struct bytes *text)
 {
     const char *left = view->table->aged ? " left" : "";
-    struct bytes starts = bytes_new();
+    struct bytes remarks = bytes_new();
     if (view->table->start == LARGER)
         add_sentence(view, text, "times in microseconds; : delay and load%s at once, - delay alone, . load%s alone, "
             "= a block, # a block of the short set", left, left);
     else
         add_sentence(view, text, "times in microseconds; . delay and load%s, = a block, # a block of the short set",
             left);
-    add_starts(&starts, view->table);
-    for (char *one = bytes_text(&starts), *end; *one != '\0'; one = end + 1) {
+    if (start_is_open(view->table))
+        add_sentence(view, text, "starts taken as the sum of delay and load (--start, or --calls, tells)");
+    add_remarks(&remarks, view->table);
+    for (char *one = bytes_text(&remarks), *end; *one != '\0'; one = end + 1) {
         end = strchr(one, '\n');
         add_sentence(view, text, "%.*s", (int)(end - one), one);
     }
-    bytes_free(&starts);
+    bytes_free(&remarks);
 }
 
 static void show_timeline(const struct view *view, struct bytes *text)
@@ -188,9 +208,9 @@ static void show_timeline(const struct view *view, struct bytes *text)
     bytes_addf(text, "\ndisk        start          end  0%*s\n", (int)width, "R");
     for (uint32_t d = 0; d < view->table->count; d++) {
         draw_line(plan, view->table, d, line, width);
-        bytes_addf(text, "%4u  %11s  %11s  |%s|\n", (unsigned)d,
-            plan->counts[d] == 0 ? "idle" : grouped(start_of(view->table, d)).text,
-            grouped(end_of(view->table, d, plan->counts[d])).text, line);
+        bytes_addf(text, "%4u  %11s  %11s  |%s|\n", (unsigned)d, view->table->rows[d].out ? "out"
+            : plan->counts[d] == 0 ? "idle" : grouped(start_of(view->table, d)).text,
+            view->table->rows[d].out ? "-" : grouped(end_of(view->table, d, plan->counts[d])).text, line);
     }
     show_marks(view, text);
 }

@@ -20,7 +20,7 @@ void add_why(struct bytes *text, const struct question *q, const struct pair *pa
     const uint32_t chosen = question_chosen(q, pair->block);
     switch (pair->reason) {
     case NO_COPY:
-        bytes_addf(text, "it holds no copy");
+        bytes_addf(text, question_out(q, pair->block, pair->disk) ? "the disk is out" : "it holds no copy");
         break;
     case LATER:
         bytes_addf(text, "it holds a copy, but read there the last block would be in after %s microsecond%s",
@@ -53,7 +53,7 @@ static void add_short(struct bytes *text, const struct question *q, const struct
 {
     const uint32_t chosen = question_chosen(q, pair->block);
     if (pair->reason == NO_COPY)
-        bytes_addf(text, "no copy");
+        bytes_addf(text, question_out(q, pair->block, pair->disk) ? "out" : "no copy");
     else if (pair->reason == LATER && q->plan_line > 0)
         bytes_addf(text, "later, by %s", grouped(pair->time - q->plan.time).text);
     else if (pair->reason == LATER)
@@ -90,13 +90,14 @@ static void add_title(struct bytes *text, const struct question *q)
     else
         bytes_addf(text, "%zu block%s; no plan of this request under these settings, so R is not known\n",
             q->blocks.count, plural(q->blocks.count));
-    add_starts(text, &q->table);
+    add_remarks(text, &q->table);
 }
 
 /* Whether two neighbours on a disk have one line in its table. */
 static bool are_alike(const struct question *q, const struct pair *a, const struct pair *b)
 {
     return b != NULL && b->block == a->block + 1 && a->reason == b->reason && a->time == b->time
+        && question_out(q, a->block, a->disk) == question_out(q, b->block, b->disk)
         && (a->reason != LOWER || question_chosen(q, a->block) == question_chosen(q, b->block));
 }
 
@@ -137,8 +138,9 @@ static void show_disk(const struct choice *choice, struct bytes *text)
         bytes_addf(text, "%-10s", range(first, b).text);
         add_columns(text, q, pair);
     }
-    bytes_addf(text, "%u of the %zu block%s %s a copy there\n", (unsigned)(q->blocks.count - none), q->blocks.count,
-        plural(q->blocks.count), q->blocks.count - none == 1 ? "has" : "have");
+    if (!q->table.rows[choice->disk].out)
+        bytes_addf(text, "%u of the %zu block%s %s a copy there\n", (unsigned)(q->blocks.count - none), q->blocks.count,
+            plural(q->blocks.count), q->blocks.count - none == 1 ? "has" : "have");
     add_blocks(text, choice, true);
     add_blocks(text, choice, false);
 }
@@ -157,7 +159,7 @@ static void add_others(struct bytes *text, const char *why, uint64_t disks)
 static void show_block(const struct choice *choice, struct bytes *text)
 {
     const struct question *q = choice->question;
-    uint64_t none = 0, open = 0, unanswered = 0;
+    uint64_t none = 0, out = 0, open = 0, unanswered = 0;
     bytes_addf(text, "block %u", (unsigned)choice->block);
     if (q->plan_line > 0)
         bytes_addf(text, ", which the plan reads from disk %u", q->plan.disk[choice->block]);
@@ -167,6 +169,8 @@ static void show_block(const struct choice *choice, struct bytes *text)
         if (pair != NULL) {
             bytes_addf(text, "%4u", (unsigned)d);
             add_columns(text, q, pair);
+        } else if (question_out(q, choice->block, d)) {
+            out |= (uint64_t)1 << d;
         } else if (!question_holds(q, choice->block, d)) {
             none |= (uint64_t)1 << d;
         } else if (question_unanswered(q, choice->block, d)) {
@@ -175,6 +179,7 @@ static void show_block(const struct choice *choice, struct bytes *text)
             open |= (uint64_t)1 << d;
         }
     }
+    add_others(text, "out", out);
     add_others(text, "no copy", none);
     add_others(text, "no answer", unanswered);
     add_others(text, "not asked", open);
@@ -232,6 +237,16 @@ void why_json(const struct choice *choice, struct bytes *text)
         bytes_addf(text, ",\"age\":%u", (unsigned)q->table.age);
     if (q->table.start != SUM)
         bytes_addf(text, ",\"start_rule\":\"%s\"", start_name(q->table.start));
+    if (q->table.marked) {
+        bytes_addf(text, ",\"out\":[");
+        for (uint32_t d = 0; d < q->table.count; d++) {
+            if (q->table.rows[d].out)
+                bytes_addf(text, "%s%u", comma, (unsigned)d);
+            comma = q->table.rows[d].out ? "," : comma;
+        }
+        bytes_addf(text, "]");
+        comma = "";
+    }
     bytes_addf(text, ",\"held\":%s,\"reasons\":[", q->plan_line > 0 ? "true" : "false");
     for (size_t i = 0; i < q->count; i++) {
         const struct pair *pair = &q->pairs[i];

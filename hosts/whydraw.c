@@ -104,7 +104,9 @@ static void draw_disk(const struct question *q, struct bytes *svg, uint32_t bloc
     const struct pair *pair = question_pair(q, block, disk);
     draw_text(svg, EDGE, base_of(disk), "font-weight=\"600\"", plain(disk).text);
     draw_text(svg, LEFT - 14, base_of(disk), "text-anchor=\"end\"", grouped(q->table.rows[disk].cost).text);
-    if (!question_holds(q, block, disk))
+    if (q->table.rows[disk].out)
+        draw_out(svg, disk);
+    else if (!question_holds(q, block, disk))
         draw_text(svg, LEFT + 10, base_of(disk), "class=\"faint\"", "no copy");
     else if (pair == NULL)
         draw_text(svg, LEFT + 10, base_of(disk), "class=\"faint\"",

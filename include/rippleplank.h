@@ -13,11 +13,12 @@
  *   cost, load, delay   a disk's microseconds for one block, still to work off, and of travel
  *   start       when a disk begins its first block: its delay and its load after each other or, where the
  *               wait overlaps the queue, the larger of both
+ *   out         of a disk that was pulled: no block is read from it until settings have it in use again
  *   age         the microseconds since the settings were measured; each load counts as the load less the
  *               age, and as 0 if the age is larger
  *   R           the plan's time in microseconds
  *   short set   the m blocks that can not all be read one microsecond sooner
- *   refusal     0 accepted, else why not: RP_SHEET_ENDS and on, 1 to 16
+ *   refusal     0 accepted, else why not: RP_SHEET_ENDS and on, 1 to 16 and 20
  *   place       where a refused sheet is wrong: a byte of it, counted from 0, or its length
  *
  * What a caller owes, for every pointer: it is not null, its length is the number of bytes that may be
@@ -26,8 +27,8 @@
  * For a length of 0 any valid address will do. Nothing else is asked: every number and every content
  * of a buffer has a determined answer, and a refused call changes no buffer.
  *
- * Lists of numbers are bytes, lowest byte first: 4 for a cost, load or delay, 8 for a block's copies, 2
- * for a block of the short set. rp_put32, rp_put64 and rp_get16 below set and get one.
+ * Lists of numbers are bytes, lowest byte first: 4 for a cost, load, delay or mark, 8 for a block's copies,
+ * 2 for a block of the short set. rp_put32, rp_put64 and rp_get16 below set and get one.
  */
 #ifndef RIPPLEPLANK_H
 #define RIPPLEPLANK_H
@@ -43,9 +44,9 @@ extern "C" {
  * The version of this header. That of the library which is linked is rp_version(). The first number is higher where a
  * function takes other arguments, the second where something was added or an answer is another.
  */
-#define RP_VERSION "2.1.0"
+#define RP_VERSION "2.2.0"
 
-/* The refusals. The desk end gives 1 to 9, 11, 15 and 16; a unit gives 10 and 12 to 14 as well. */
+/* The refusals. The desk end gives 1 to 9, 11, 15 and 16; a unit gives 10, 12 to 14 and 20 as well. */
 enum {
     RP_ACCEPTED = 0,
     RP_SHEET_ENDS = 1,      /* the sheet ends inside a number or before one that is due */
@@ -62,8 +63,17 @@ enum {
     RP_RENTED = 12,         /* rent while rented */
     RP_NOT_ABOVE = 13,      /* rent not above the last tenancy */
     RP_NOT_THE_TENANT = 14, /* return while not rented, or of another tenancy */
-    RP_BAD_AMOUNT = 15,     /* a cost, load, delay or plan time is out of its range, or a request of kind 2 has an age */
-    RP_BAD_INDEX = 16       /* a disk or block number is out of its range */
+    RP_BAD_AMOUNT = 15,     /* a cost, load, delay, rule, mark or plan time is out of its range, or a request of kind 2 has an age */
+    RP_BAD_INDEX = 16,      /* a disk or block number is out of its range */
+    RP_ALL_OUT = 20         /* all copies of a block are out */
+};
+
+/* The start rules of rp_write_settings_marked, and the marks of its disks. */
+enum {
+    RP_START_SUM = 1,       /* a disk starts at the sum of its delay and its load */
+    RP_START_LARGER = 2,    /* at the larger of both */
+    RP_IN_USE = 0,
+    RP_OUT = 1
 };
 
 /* The kinds of a read request: one without an age, which means age 0, and one with it. */
@@ -81,7 +91,7 @@ enum {
     RP_MOST_LOAD = 100000000,
     RP_MOST_DELAY = 1000000,
     RP_MOST_TIME = 1125000000,
-    RP_LONGEST_SETTINGS = 652,    /* bytes; an `out` of this length is never too short */
+    RP_LONGEST_SETTINGS = 717,    /* bytes, of any kind; an `out` of this length is never too short */
     RP_LONGEST_REQUEST = 9234,
     RP_LONGEST_PLAN = 2964
 };
@@ -113,11 +123,29 @@ uint64_t rp_write_settings_overlap(uint32_t unit, uint32_t tenancy,
     const uint8_t *delays, size_t delays_len, uint8_t *out, size_t out_len);
 
 /*
+ * The same, of kind 6, with the start rule and a mark for each disk: RP_IN_USE, or RP_OUT for one that was
+ * pulled, from which no block is then read. The marks are 32-bit numbers like the three lists beside them.
+ * All disks may be out.
+ * Refused, in this order, with out unchanged:
+ *   6   the tenancy is 0; the four lengths are not equal, or not a multiple of 4
+ *   6   the number of disks is not 1 to 64
+ *   15  the rule is neither 1 nor 2
+ *   15  disk by disk: a cost, load or delay as above, a mark that is neither 0 nor 1
+ *   11  as above
+ */
+uint64_t rp_write_settings_marked(uint32_t unit, uint32_t tenancy, uint32_t rule,
+    const uint8_t *costs, size_t costs_len, const uint8_t *loads, size_t loads_len,
+    const uint8_t *delays, size_t delays_len, const uint8_t *marks, size_t marks_len,
+    uint8_t *out, size_t out_len);
+
+/*
  * Writes a read request: one number of copies for each block, bit d set where disk d holds one.
  *
  * kind is RP_REQUEST with an age of 0, or RP_AGED_REQUEST with any age, 0 too. disks is N, the number of
  * disks of the unit's table. copies_len is in bytes; copies_len / 8 is the number of blocks, and no blocks
  * is a request too.
+ * An age of 100,000,000 (100 seconds) or more leaves nothing of any load: give that for anything older, as an
+ * age ends at 4,294,967,295 (71.6 minutes).
  * Accepted: out begins with the sheet, rp_length of the answer says how long it is, and what is in
  * out beyond that length is what it was.
  * Refused, in this order, with out unchanged:
@@ -201,7 +229,7 @@ static inline uint32_t rp_short_size(uint64_t answer)
     return (uint32_t)((answer >> 50) & 0x7FFu);
 }
 
-/* Sets number i of a list of 32-bit numbers: costs, loads, delays. */
+/* Sets number i of a list of 32-bit numbers: costs, loads, delays, marks. */
 static inline void rp_put32(uint8_t *list, size_t i, uint32_t value)
 {
     size_t byte;
@@ -242,8 +270,9 @@ static inline const char *rp_refusal_words(unsigned refusal)
     case RP_RENTED: return "rent while rented";
     case RP_NOT_ABOVE: return "rent not above the last tenancy";
     case RP_NOT_THE_TENANT: return "return while not rented, or of another tenancy";
-    case RP_BAD_AMOUNT: return "a cost, load, delay or plan time is out of its range, or a request of kind 2 has an age";
+    case RP_BAD_AMOUNT: return "a cost, load, delay, rule, mark or plan time is out of its range, or a request of kind 2 has an age";
     case RP_BAD_INDEX: return "a disk or block number is out of its range";
+    case RP_ALL_OUT: return "all copies of a block are out";
     default: return "not a refusal of this version";
     }
 }

@@ -224,7 +224,7 @@ mod tests {
     use crate::model::Row;
     use crate::number::Reader;
     use crate::refusal::Refused;
-    use crate::sheets::{read_request, read_settings, Request};
+    use crate::sheets::{read_request, read_settings, Known, Request};
     use crate::unit::Unit;
 
     #[test]
@@ -242,14 +242,14 @@ mod tests {
         let lines: Vec<String> = (0..count)
             .map(|index| bench::line(&bench_input(&systematic, 1, index)))
             .collect();
-        for number in [1, 2, 3, 4, 5, 6, 7, 8, 9, 13, 15, 16] {
+        for number in [1, 2, 3, 4, 5, 6, 7, 8, 9, 13, 15, 16, 20] {
             let refused = format!("refused {number}");
             assert!(
                 lines.iter().filter(|line| **line == refused).count() > 30,
                 "{refused}"
             );
         }
-        assert!(lines.iter().filter(|line| line.starts_with("plan")).count() > 3_000);
+        assert!(lines.iter().filter(|line| line.starts_with("plan")).count() > 2_500);
     }
 
     /// An accepted request of a stream: its call, 3 or 5, what it says, and the table last set.
@@ -278,7 +278,9 @@ mod tests {
                     reader.number()?;
                 }
                 let sheet = sheet_in(&mut reader)?;
-                let request = read_request(sheet, number, unit.tenancy(), unit.disks())?;
+                let (disks, out) = (unit.disks(), unit.out());
+                let known = Known { disks, out };
+                let request = read_request(sheet, number, unit.tenancy(), known)?;
                 return Ok(Some((call, request, table.clone())));
             }
         }
@@ -326,7 +328,7 @@ mod tests {
                 }
             }
         }
-        let plain = [("kind 2", 1_500), ("age 0", 500), ("the greatest age", 300)];
+        let plain = [("kind 2", 1_500), ("age 0", 500), ("the greatest age", 200)];
         let wanted = [plain, sides.map(|(what, _, least)| (what, least))].concat();
         for (what, least) in wanted {
             for call in [3, 5] {
@@ -362,7 +364,7 @@ mod tests {
         ] {
             assert!(count(line) > 20, "{line}");
         }
-        for number in 1..=16 {
+        for number in (1..=16).chain([20]) {
             let refused = format!("refused {number} ");
             assert!(
                 text.lines()

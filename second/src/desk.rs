@@ -3,9 +3,9 @@
 use std::io::{BufRead, Write};
 
 use crate::hex;
-use crate::model::{Row, Rule, Table};
+use crate::model::{Row, Rule};
 use crate::refusal::{Refused, NO_ROOM, RANGE};
-use crate::sheets::{read_plan, write_request, write_settings, Wanted};
+use crate::sheets::{read_plan, write_marked, write_request, write_settings, Wanted};
 
 /// What every byte of a lent buffer is before the call.
 const FILL: u8 = 0xA5;
@@ -26,6 +26,7 @@ pub fn answer(line: &str) -> String {
     let found = match words[0] {
         "settings" => settings(Rule::Sum, &words[1..]),
         "larger" => settings(Rule::Larger, &words[1..]),
+        "marked" => marked(&words[1..]),
         "request" => request(&words[1..]),
         "plan" => plan(&words[1..]),
         _ => None,
@@ -40,9 +41,37 @@ fn settings(rule: Rule, words: &[&str]) -> Option<String> {
     let room = room.parse().ok()?;
     let (unit, tenancy) = (unit.parse().ok()?, tenancy.parse().ok()?);
     let lists = [hex::read(costs)?, hex::read(loads)?, hex::read(delays)?];
-    let table = rows(&lists).map(|rows| Table { rule, rows });
-    let sheet = table.and_then(|table| write_settings(unit, tenancy, &table, room));
+    let sheet = rows(lists).and_then(|rows| {
+        let rows: Vec<Row> = rows.into_iter().map(row).collect();
+        write_settings(unit, tenancy, rule, &rows, room)
+    });
     Some(wrote(sheet, room))
+}
+
+fn marked(words: &[&str]) -> Option<String> {
+    let &[room, unit, tenancy, rule, costs, loads, delays, marks] = words else {
+        return None;
+    };
+    let room = room.parse().ok()?;
+    let (unit, tenancy, rule) = (
+        unit.parse().ok()?,
+        tenancy.parse().ok()?,
+        rule.parse().ok()?,
+    );
+    let lists = [costs, loads, delays, marks].map(hex::read);
+    let [Some(costs), Some(loads), Some(delays), Some(marks)] = lists else {
+        return None;
+    };
+    let sheet = rows([costs, loads, delays, marks]).and_then(|rows| {
+        let split = |[cost, load, delay, mark]: [u32; 4]| (row([cost, load, delay]), mark);
+        let rows: Vec<(Row, u32)> = rows.into_iter().map(split).collect();
+        write_marked(unit, tenancy, rule, &rows, room)
+    });
+    Some(wrote(sheet, room))
+}
+
+fn row([cost, load, delay]: [u32; 3]) -> Row {
+    Row { cost, load, delay }
 }
 
 fn request(words: &[&str]) -> Option<String> {
@@ -101,21 +130,17 @@ fn read_into(
     Ok((plan.disks.len(), plan.time, plan.short.len()))
 }
 
-/// Three lists of 32-bit numbers, lowest byte first; unequal or broken lists get 6.
-fn rows(lists: &[Vec<u8>; 3]) -> Result<Vec<Row>, Refused> {
-    let [costs, loads, delays] = lists;
-    if costs.len() != loads.len() || costs.len() != delays.len() || !costs.len().is_multiple_of(4) {
+/// Lists of 32-bit numbers, lowest byte first, an entry of each in a row; unequal or broken lists get 6.
+fn rows<const COUNT: usize>(lists: [Vec<u8>; COUNT]) -> Result<Vec<[u32; COUNT]>, Refused> {
+    let length = lists[0].len();
+    if lists.iter().any(|list| list.len() != length) || !length.is_multiple_of(4) {
         return Err(RANGE.nowhere());
     }
     let read = |list: &[u8], at: usize| {
         u32::from_le_bytes([list[at], list[at + 1], list[at + 2], list[at + 3]])
     };
-    let row = |at| Row {
-        cost: read(costs, at),
-        load: read(loads, at),
-        delay: read(delays, at),
-    };
-    Ok((0..costs.len()).step_by(4).map(row).collect())
+    let row = |at| std::array::from_fn(|list| read(&lists[list], at));
+    Ok((0..length).step_by(4).map(row).collect())
 }
 
 /// A list of 64-bit numbers, lowest byte first; nothing if it is broken.
@@ -181,6 +206,28 @@ mod tests {
             "refused 15 0 -"
         );
         assert_eq!(answer("larger 0 7 5 - - -"), "refused 6 0 -");
+        assert_eq!(
+            answer("marked 10 7 5 2 04000000 02000000 01000000 01000000"),
+            "wrote 9 060705010204020101a5"
+        );
+        assert_eq!(
+            answer("marked 8 7 5 1 04000000 02000000 01000000 00000000"),
+            "refused 11 9 a5a5a5a5a5a5a5a5"
+        );
+        let one = "04000000 02000000 01000000";
+        for (line, refusal) in [
+            (format!("marked 0 7 0 0 {one} 01000000"), 6),
+            (format!("marked 0 7 5 0 {one} -"), 6),
+            (format!("marked 0 7 5 0 {one} 0100000000000000"), 6),
+            (format!("marked 0 7 5 0 {one} 010000"), 6),
+            ("marked 0 7 5 0 - - - -".to_string(), 6),
+            (format!("marked 0 7 5 0 {one} 01000000"), 15),
+            (format!("marked 0 7 5 3 {one} 01000000"), 15),
+            (format!("marked 0 7 5 1 {one} 02000000"), 15),
+            (format!("marked 0 7 5 1 {one} 00010000"), 15),
+        ] {
+            assert_eq!(answer(&line), format!("refused {refusal} 0 -"), "{line}");
+        }
         assert_eq!(
             answer("request 7 2 7 5 0 2 0300000000000000"),
             "wrote 7 02070501020001"

@@ -24,11 +24,12 @@ pub enum Rule {
     Larger,
 }
 
-/// What a settings sheet says; the sum and no rows stand for none yet.
+/// What a settings sheet says, bit d of `out` for a disk that is out; the sum and no rows stand for none yet.
 #[derive(Clone, Debug, Default, PartialEq, Eq)]
 pub struct Table {
     pub rule: Rule,
     pub rows: Vec<Row>,
+    pub out: u64,
 }
 
 /// A disk as the model sees it.
@@ -83,6 +84,11 @@ impl Row {
 }
 
 impl Table {
+    /// Of a block's copies those in use.
+    pub fn in_use(&self, copies: &[u64]) -> Vec<u64> {
+        copies.iter().map(|block| block & !self.out).collect()
+    }
+
     /// The disks for a request of that age.
     pub fn disks(&self, age: u32) -> Vec<Disk> {
         self.rows

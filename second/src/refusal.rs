@@ -67,7 +67,9 @@ pub const RENTED: Refusal = Refusal(12);
 pub const NOT_ABOVE: Refusal = Refusal(13);
 /// Return while not rented, or of another tenancy.
 pub const NOT_RETURNED: Refusal = Refusal(14);
-/// A cost, load, delay or plan time is out of its range.
+/// A cost, load, delay, start rule, mark or plan time is out of its range.
 pub const VALUE: Refusal = Refusal(15);
 /// A disk or block number is out of its range.
 pub const NO_SUCH: Refusal = Refusal(16);
+/// All copies of a block are out.
+pub const ALL_OUT: Refusal = Refusal(20);

@@ -9,6 +9,10 @@ pub const REQUEST: u32 = 2;
 pub const PLAN: u32 = 3;
 pub const AGED_REQUEST: u32 = 4;
 pub const LARGER_SETTINGS: u32 = 5;
+pub const MARKED_SETTINGS: u32 = 6;
+/// The start rules as a sheet of kind 6 has them.
+pub const SUM: u32 = 1;
+pub const LARGER: u32 = 2;
 pub const LONGEST_REQUEST: u32 = 9_234;
 pub const LONGEST_PLAN: usize = 2_964;
 
@@ -60,30 +64,45 @@ fn read_rising(reader: &mut Reader, high: u32, before: Option<u32>) -> Result<u3
 
 pub fn read_settings(sheet: &[u8], unit: u32, tenancy: u32) -> Result<Table, Refused> {
     let mut reader = Reader::new(sheet);
-    let kinds = [SETTINGS, LARGER_SETTINGS];
+    let kinds = [SETTINGS, LARGER_SETTINGS, MARKED_SETTINGS];
     let kind = read_head(&mut reader, &kinds, unit, tenancy)?;
-    let rule = if kind == LARGER_SETTINGS {
-        Rule::Larger
-    } else {
-        Rule::Sum
-    };
     let count = reader.within(1, MOST_DISKS, RANGE)?;
-    let mut rows = Vec::new();
-    for _ in 0..count {
+    let larger = match kind {
+        MARKED_SETTINGS => reader.within(SUM, LARGER, VALUE)? == LARGER,
+        _ => kind == LARGER_SETTINGS,
+    };
+    let rule = if larger { Rule::Larger } else { Rule::Sum };
+    let (mut rows, mut out) = (Vec::new(), 0);
+    for disk in 0..count {
         let cost = reader.within(1, MOST_COST, VALUE)?;
         let load = reader.within(0, MOST_LOAD, VALUE)?;
         let delay = reader.within(0, MOST_DELAY, VALUE)?;
         rows.push(Row { cost, load, delay });
+        if kind == MARKED_SETTINGS && reader.within(0, 1, VALUE)? == 1 {
+            out |= 1 << disk;
+        }
     }
     reader.finish()?;
-    Ok(Table { rule, rows })
+    Ok(Table { rule, rows, out })
 }
 
-/// A table of 0 disks stands for no settings yet, which is refused before the age.
-pub fn read_request(sheet: &[u8], unit: u32, tenancy: u32, disks: u32) -> Result<Request, Refused> {
+/// What a request is held against: how many disks there are, and which of them are out.
+#[derive(Clone, Copy)]
+pub struct Known {
+    pub disks: u32,
+    pub out: u64,
+}
+
+/// 0 disks stand for no settings yet, which is refused before the age. The copies are those that the sheet names, out or not.
+pub fn read_request(
+    sheet: &[u8],
+    unit: u32,
+    tenancy: u32,
+    known: Known,
+) -> Result<Request, Refused> {
     let mut reader = Reader::new(sheet);
     let kind = read_head(&mut reader, &[REQUEST, AGED_REQUEST], unit, tenancy)?;
-    if disks == 0 {
+    if known.disks == 0 {
         return Err(reader.refuse_next(NO_SETTINGS));
     }
     let age = if kind == AGED_REQUEST {
@@ -93,13 +112,13 @@ pub fn read_request(sheet: &[u8], unit: u32, tenancy: u32, disks: u32) -> Result
     };
     let count = reader.within(0, MOST_BLOCKS, RANGE)?;
     let copies = (0..count)
-        .map(|_| read_copies(&mut reader, disks))
+        .map(|_| read_copies(&mut reader, known))
         .collect::<Result<_, _>>()?;
     reader.finish()?;
     Ok(Request { age, copies })
 }
 
-fn read_copies(reader: &mut Reader, disks: u32) -> Result<u64, Refused> {
+fn read_copies(reader: &mut Reader, known: Known) -> Result<u64, Refused> {
     let count = reader.number()?;
     if count == 0 {
         return Err(reader.refuse(NO_COPY));
@@ -109,9 +128,12 @@ fn read_copies(reader: &mut Reader, disks: u32) -> Result<u64, Refused> {
     }
     let (mut copies, mut before) = (0, None);
     for _ in 0..count {
-        let disk = read_rising(reader, disks - 1, before)?;
+        let disk = read_rising(reader, known.disks - 1, before)?;
         copies |= 1u64 << disk;
         before = Some(disk);
+    }
+    if copies & !known.out == 0 {
+        return Err(reader.refuse(ALL_OUT));
     }
     Ok(copies)
 }
@@ -172,24 +194,49 @@ fn count_in_range(count: usize, low: u32, high: u32) -> Result<u32, Refused> {
     in_range(u32::try_from(count).unwrap_or(u32::MAX), low, high, RANGE)
 }
 
-/// The desk's settings writers, one for each start rule; the three lists come one row a disk.
+fn write_row(out: &mut Vec<u8>, row: &Row) -> Result<(), Refused> {
+    write(out, in_range(row.cost, 1, MOST_COST, VALUE)?);
+    write(out, in_range(row.load, 0, MOST_LOAD, VALUE)?);
+    write(out, in_range(row.delay, 0, MOST_DELAY, VALUE)?);
+    Ok(())
+}
+
+/// The desk's settings writers of kinds 1 and 5, one for each start rule; the three lists come one row a disk.
 pub fn write_settings(
     unit: u32,
     tenancy: u32,
-    table: &Table,
+    rule: Rule,
+    rows: &[Row],
     room: usize,
 ) -> Result<Vec<u8>, Refused> {
     in_range(tenancy, 1, u32::MAX, RANGE)?;
-    let kind = match table.rule {
+    let kind = match rule {
         Rule::Sum => SETTINGS,
         Rule::Larger => LARGER_SETTINGS,
     };
     let mut out = write_head(kind, unit, tenancy);
-    write(&mut out, count_in_range(table.rows.len(), 1, MOST_DISKS)?);
-    for row in &table.rows {
-        write(&mut out, in_range(row.cost, 1, MOST_COST, VALUE)?);
-        write(&mut out, in_range(row.load, 0, MOST_LOAD, VALUE)?);
-        write(&mut out, in_range(row.delay, 0, MOST_DELAY, VALUE)?);
+    write(&mut out, count_in_range(rows.len(), 1, MOST_DISKS)?);
+    for row in rows {
+        write_row(&mut out, row)?;
+    }
+    fitting(out, room)
+}
+
+/// The desk's settings writer of kind 6: the start rule is told, and a mark beside each row.
+pub fn write_marked(
+    unit: u32,
+    tenancy: u32,
+    rule: u32,
+    rows: &[(Row, u32)],
+    room: usize,
+) -> Result<Vec<u8>, Refused> {
+    in_range(tenancy, 1, u32::MAX, RANGE)?;
+    let mut out = write_head(MARKED_SETTINGS, unit, tenancy);
+    write(&mut out, count_in_range(rows.len(), 1, MOST_DISKS)?);
+    write(&mut out, in_range(rule, SUM, LARGER, VALUE)?);
+    for (row, mark) in rows {
+        write_row(&mut out, row)?;
+        write(&mut out, in_range(*mark, 0, 1, VALUE)?);
     }
     fitting(out, room)
 }
@@ -260,11 +307,12 @@ mod tests {
             delay: MOST_DELAY,
         };
         for rule in [Rule::Sum, Rule::Larger] {
-            let rows = vec![row; 64];
-            let table = Table { rule, rows };
-            let settings = write_settings(u32::MAX, u32::MAX, &table, 652).unwrap();
+            let settings = write_settings(u32::MAX, u32::MAX, rule, &[row; 64], 652).unwrap();
             assert_eq!(settings.len(), 652);
         }
+        let marked = |room| write_marked(u32::MAX, u32::MAX, 2, &[(row, 1); 64], room);
+        assert_eq!(marked(717).unwrap().len(), 717);
+        assert_eq!(marked(716), Err(NO_ROOM.at(717)));
         for (kind, age, length) in [(REQUEST, 0, 9_229), (AGED_REQUEST, u32::MAX, 9_234)] {
             let wanted = Wanted {
                 kind,
@@ -297,7 +345,21 @@ mod tests {
         for _ in 0..2_000 {
             let case = whole::any(&mut random);
             let (unit, tenancy) = (random.number(), random.number().max(1));
-            let settings = write_settings(unit, tenancy, &case.table, 652).unwrap();
+            let Table { rule, rows, .. } = &case.table.clone();
+            let settings = write_settings(unit, tenancy, *rule, rows, 652).unwrap();
+            assert_eq!(
+                read_settings(&settings, unit, tenancy),
+                Ok(case.table.clone())
+            );
+            let case = whole::some_out(&mut random, case);
+            let number = if *rule == Rule::Sum { 1 } else { 2 };
+            let mark = |disk: usize| (case.table.out >> disk & 1) as u32;
+            let marked: Vec<(Row, u32)> = rows
+                .iter()
+                .enumerate()
+                .map(|(disk, row)| (*row, mark(disk)))
+                .collect();
+            let settings = write_marked(unit, tenancy, number, &marked, 717).unwrap();
             assert_eq!(
                 read_settings(&settings, unit, tenancy),
                 Ok(case.table.clone())
@@ -314,7 +376,7 @@ mod tests {
             };
             let request = write_request(&wanted, 9_234).unwrap();
             assert_eq!(
-                read_request(&request, unit, tenancy, disks),
+                read_request(&request, unit, tenancy, all_in(disks)),
                 Ok(Request {
                     age,
                     copies: case.copies.clone()
@@ -326,6 +388,100 @@ mod tests {
                 assert_eq!(read_plan(&sheet, unit, tenancy), Ok(plan));
             }
         }
+    }
+
+    fn all_in(disks: u32) -> Known {
+        Known { disks, out: 0 }
+    }
+
+    /// N 2 in sheet form: rule, then cost, load, delay, mark of two disks.
+    #[test]
+    fn a_sheet_of_kind_6_has_a_rule_and_marks() {
+        let whole = [6, 7, 5, 2, 2, 4, 0, 1, 0, 3, 100, 9, 1];
+        let read = |sheet: &[u8]| read_settings(sheet, 7, 5);
+        let table = read(&whole).unwrap();
+        assert_eq!((table.rule, table.out), (Rule::Larger, 2));
+        assert_eq!(table.rows[1].delay, 9);
+        for length in 0..whole.len() {
+            assert_eq!(read(&whole[..length]), Err(ENDS.at(length)));
+        }
+        let with = |place: usize, value: u8| {
+            let mut damaged = whole;
+            damaged[place] = value;
+            read(&damaged)
+        };
+        assert_eq!(with(3, 0), Err(RANGE.at(3)));
+        assert_eq!(with(3, 65), Err(RANGE.at(3)));
+        assert_eq!(with(4, 0), Err(VALUE.at(4)));
+        assert_eq!(with(4, 3), Err(VALUE.at(4)));
+        assert_eq!(with(4, 1).unwrap().rule, Rule::Sum);
+        assert_eq!(with(5, 0), Err(VALUE.at(5)));
+        assert_eq!(with(8, 2), Err(VALUE.at(8)));
+        assert_eq!(with(8, 1).unwrap().out, 3);
+        assert_eq!(with(12, 2), Err(VALUE.at(12)));
+        assert_eq!(with(12, 0).unwrap().out, 0);
+        assert_eq!(with(0, 5), Err(TRAILING.at(10)));
+        assert_eq!(with(0, 7), Err(KIND.at(0)));
+        assert_eq!(read(&[6, 7, 5, 65, 0]), Err(RANGE.at(3)));
+        assert_eq!(read(&[6, 7, 5, 1, 0, 0]), Err(VALUE.at(4)));
+        assert_eq!(read(&[6, 7, 5, 1, 1, 1, 0, 0, 0x81, 0]), Err(FORM.at(8)));
+        assert_eq!(read(&[6, 7, 5, 1, 1, 1, 0, 0, 1, 1]), Err(TRAILING.at(9)));
+    }
+
+    #[test]
+    fn the_marked_writer_refuses_in_field_order() {
+        let row = |cost| Row {
+            cost,
+            load: 0,
+            delay: 0,
+        };
+        let write = |tenancy, rule, rows: &[(Row, u32)], room| {
+            write_marked(7, tenancy, rule, rows, room).map(|sheet| sheet.len())
+        };
+        assert_eq!(write(0, 0, &[], 0), Err(RANGE.at(0)));
+        assert_eq!(write(1, 0, &[], 0), Err(RANGE.at(0)));
+        assert_eq!(write(1, 0, &[(row(0), 2); 65], 0), Err(RANGE.at(0)));
+        for rule in [0, 3, u32::MAX] {
+            assert_eq!(write(1, rule, &[(row(1), 0)], 99), Err(VALUE.at(0)));
+        }
+        assert_eq!(write(1, 1, &[(row(1), 2)], 0), Err(VALUE.at(0)));
+        assert_eq!(
+            write(1, 1, &[(row(1), 1), (row(0), 1)], 0),
+            Err(VALUE.at(0))
+        );
+        assert_eq!(write(1, 1, &[(row(1), 1)], 8), Err(NO_ROOM.at(9)));
+        assert_eq!(write(1, 2, &[(row(1), 1)], 9), Ok(9));
+    }
+
+    /// Of 4 disks 1 and 3 are out.
+    #[test]
+    fn a_block_with_all_copies_out_is_20_at_its_last_copy() {
+        let known = Known { disks: 4, out: 10 };
+        let read = |blocks: &[u8]| {
+            let sheet = [&[2, 7, 5], blocks].concat();
+            read_request(&sheet, 7, 5, known).map(|request| request.copies)
+        };
+        assert_eq!(read(&[0]), Ok(vec![]));
+        assert_eq!(read(&[1, 2, 0, 1]), Ok(vec![3]));
+        assert_eq!(read(&[1, 1, 1]), Err(ALL_OUT.at(5)));
+        assert_eq!(read(&[1, 2, 1, 3]), Err(ALL_OUT.at(6)));
+        assert_eq!(read(&[2, 1, 0, 2, 1, 3]), Err(ALL_OUT.at(8)));
+        assert_eq!(read(&[2, 1, 1, 0]), Err(ALL_OUT.at(5)));
+        assert_eq!(read(&[2, 1, 1]), Err(ALL_OUT.at(5)));
+        assert_eq!(read(&[1, 1, 3, 0]), Err(ALL_OUT.at(5)));
+        assert_eq!(read(&[1, 1, 3, 0x80, 0]), Err(ALL_OUT.at(5)));
+        assert_eq!(read(&[1, 2, 1]), Err(ENDS.at(6)));
+        assert_eq!(read(&[1, 2, 1, 1]), Err(NOT_RISING.at(6)));
+        assert_eq!(read(&[1, 2, 3, 1]), Err(NOT_RISING.at(6)));
+        assert_eq!(read(&[1, 2, 1, 4]), Err(NO_SUCH.at(6)));
+        assert_eq!(read(&[1, 2, 1, 0x83, 0]), Err(FORM.at(6)));
+        assert_eq!(read(&[2, 0, 1, 1]), Err(NO_COPY.at(4)));
+        assert_eq!(read(&[2, 1, 3, 0]), Err(ALL_OUT.at(5)));
+        assert_eq!(read(&[1, 2, 2, 3]), Ok(vec![12]));
+        let everything = Known { disks: 4, out: 15 };
+        assert!(read_request(&[2, 7, 5, 0], 7, 5, everything).is_ok());
+        let found = read_request(&[4, 7, 5, 0xAC, 2, 1, 1, 2], 7, 5, everything);
+        assert_eq!(found, Err(ALL_OUT.at(7)));
     }
 
     const WANTED: Wanted = Wanted {
@@ -375,7 +531,10 @@ mod tests {
             };
             let sheet = write_request(&wanted, 99).unwrap();
             assert_eq!(sheet[..3], [4, 7, 1]);
-            assert_eq!(read_request(&sheet, 7, 1, 2).unwrap().age, Some(age));
+            assert_eq!(
+                read_request(&sheet, 7, 1, all_in(2)).unwrap().age,
+                Some(age)
+            );
         }
     }
 
@@ -396,7 +555,7 @@ mod tests {
                 assert_eq!(read(1, &damaged).err(), read(5, &damaged).err());
             }
         }
-        for kind in [0, 2, 3, 4, 6, 7, 8, 127] {
+        for kind in [0, 2, 3, 4, 7, 8, 127] {
             assert_eq!(read(kind, &[8]), Err(KIND.at(0)));
         }
         assert_eq!(read_settings(&[0x85, 0], 7, 5), Err(FORM.at(0)));
@@ -404,7 +563,7 @@ mod tests {
 
     #[test]
     fn an_age_stands_after_the_tenancy_and_after_10() {
-        let read = |sheet: &[u8], disks| read_request(sheet, 7, 5, disks);
+        let read = |sheet: &[u8], disks| read_request(sheet, 7, 5, all_in(disks));
         assert_eq!(read(&[4, 7, 5], 0), Err(NO_SETTINGS.at(3)));
         assert_eq!(read(&[4, 7, 5, 0x80, 0], 0), Err(NO_SETTINGS.at(3)));
         assert_eq!(read(&[4, 7, 5], 2), Err(ENDS.at(3)));
@@ -435,10 +594,15 @@ mod tests {
     fn writers_refuse_in_field_order() {
         let row = |cost, load, delay| Row { cost, load, delay };
         let write = |tenancy, rows: &[Row], room| {
-            let [sum, larger] = [Rule::Sum, Rule::Larger].map(|rule| {
-                let rows = rows.to_vec();
-                write_settings(7, tenancy, &Table { rule, rows }, room)
-            });
+            let [sum, larger] =
+                [Rule::Sum, Rule::Larger].map(|rule| write_settings(7, tenancy, rule, rows, room));
+            let marked: Vec<(Row, u32)> = rows.iter().map(|row| (*row, 0)).collect();
+            let longer = room + 1 + rows.len();
+            let marked = write_marked(7, tenancy, 1, &marked, longer);
+            match (&sum, &marked) {
+                (Err(sum), Err(marked)) => assert_eq!(sum.refusal, marked.refusal),
+                _ => assert!(sum.is_ok() && marked.is_ok()),
+            }
             if let (Ok(sum), Ok(larger)) = (&sum, &larger) {
                 assert_eq!((sum[0], larger[0]), (1, 5));
                 assert_eq!(sum[1..], larger[1..]);

@@ -4,6 +4,7 @@ use crate::inputs::fields;
 use crate::inputs::whole::{self, Case};
 use crate::model::{disks_of, Rule};
 use crate::random::Random;
+use crate::refusal::ALL_OUT;
 use crate::sheets::read_plan;
 use crate::unit::Unit;
 
@@ -15,7 +16,8 @@ struct Small {
 
 impl Small {
     fn any(random: &mut Random) -> Self {
-        let mut case = whole::small(random);
+        let case = whole::small(random);
+        let mut case = whole::some_out(random, case);
         case.copies.truncate(5);
         let age = whole::age(random, &case.table.rows);
         Small { case, age }
@@ -42,8 +44,24 @@ impl Small {
         }
     }
 
+    /// A block's copies in use.
     fn copies(&self, block: usize) -> Vec<usize> {
-        disks_of(self.case.copies[block])
+        let named = disks_of(self.case.copies[block]);
+        let marks = disks_of(self.case.table.out);
+        named
+            .into_iter()
+            .filter(|disk| !marks.contains(disk))
+            .collect()
+    }
+
+    /// The first byte of the last copy of the first block that is all out.
+    fn all_out(&self, sheet: &[fields::Field]) -> Option<usize> {
+        let block = (0..self.case.copies.len()).find(|&block| self.copies(block).is_empty())?;
+        let before = &self.case.copies[..=block];
+        let numbers: u32 = before.iter().map(|copies| 1 + copies.count_ones()).sum();
+        let head = if self.age.is_some() { 5 } else { 4 };
+        let last = head + numbers as usize - 1;
+        Some(fields::bytes(&sheet[..last]).len())
     }
 
     /// All schedules in dictionary order, each with its latest end.
@@ -123,35 +141,53 @@ impl Small {
         time
     }
 
-    /// The time of a unit that is set so, its answer checked.
-    fn time(&self, unit: &mut Unit) -> i64 {
+    /// The time of a unit that is set so, its answer checked; none if it refuses a block that is all out.
+    fn time(&self, unit: &mut Unit) -> Option<i64> {
         let settings = fields::bytes(&fields::settings(7, 300, &self.case.table));
         unit.settings(&settings).unwrap();
+        let marked = fields::bytes(&fields::marked(7, 300, &self.case.table));
+        let mut other = unit.clone();
+        other.settings(&marked).unwrap();
+        assert_eq!(*unit, other);
         let sheet = fields::request(7, 300, self.age, &self.case.copies);
-        self.check(unit, &fields::bytes(&sheet))
+        if let Some(place) = self.all_out(&sheet) {
+            let refused = unit.request(&fields::bytes(&sheet), 99);
+            assert_eq!(refused, Err(ALL_OUT.at(place)));
+            return None;
+        }
+        Some(self.check(unit, &fields::bytes(&sheet)))
     }
 }
 
 #[test]
-fn ages_and_rules() {
+fn ages_rules_and_marks() {
     let mut random = Random::new(31);
-    let (mut by_age, mut by_rule) = (0, 0);
+    let (mut by_age, mut by_rule, mut by_marks, mut refused) = (0, 0, 0, 0);
     let mut unit = Unit::new(7);
     unit.rent(300).unwrap();
-    for _ in 0..2_000 {
+    for _ in 0..2_500 {
         let mut small = Small::any(&mut random);
-        let time = small.time(&mut unit);
+        let Some(time) = small.time(&mut unit) else {
+            refused += 1;
+            continue;
+        };
+        let out = std::mem::take(&mut small.case.table.out);
+        let all_in = small.time(&mut unit).unwrap();
+        assert!(all_in <= time);
+        by_marks += usize::from(all_in < time);
+        small.case.table.out = out;
         let age = small.age.take();
-        let without = small.time(&mut unit);
+        let without = small.time(&mut unit).unwrap();
         assert!(time <= without);
         by_age += usize::from(time < without);
         small.age = age;
         let times = [Rule::Larger, Rule::Sum].map(|rule| {
             small.case.table.rule = rule;
-            small.time(&mut unit)
+            small.time(&mut unit).unwrap()
         });
         assert!(times.contains(&time) && times[0] <= times[1]);
         by_rule += usize::from(times[0] < times[1]);
     }
-    assert!(by_age > 400 && by_rule > 400, "{by_age} {by_rule}");
+    let counts = [by_age, by_rule, by_marks, refused];
+    assert!(counts.iter().all(|&count| count > 150), "{counts:?}");
 }

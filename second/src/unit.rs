@@ -3,7 +3,7 @@
 use crate::model::{Disk, Reason, Table};
 use crate::planner;
 use crate::refusal::{Refused, NOT_ABOVE, NOT_RETURNED, NO_SUCH, RENTED};
-use crate::sheets::{read_request, read_settings, write_plan, Request};
+use crate::sheets::{read_request, read_settings, write_plan, Known};
 
 /// A unit; a table without rows means no settings yet.
 #[derive(Clone, Debug, PartialEq, Eq)]
@@ -54,27 +54,35 @@ impl Unit {
         Ok(())
     }
 
-    /// An accepted request, and the disks at its age.
-    fn asked(&self, sheet: &[u8]) -> Result<(Vec<Disk>, Request), Refused> {
-        let request = read_request(sheet, self.number, self.tenancy(), self.disks())?;
-        Ok((self.table.disks(request.age()), request))
+    /// The disks that are out.
+    pub fn out(&self) -> u64 {
+        self.table.out
+    }
+
+    /// The disks at the age of an accepted request, and each block's copies in use.
+    fn asked(&self, sheet: &[u8]) -> Result<(Vec<Disk>, Vec<u64>), Refused> {
+        let (disks, out) = (self.disks(), self.out());
+        let known = Known { disks, out };
+        let request = read_request(sheet, self.number, self.tenancy(), known)?;
+        let copies = self.table.in_use(&request.copies);
+        Ok((self.table.disks(request.age()), copies))
     }
 
     /// The plan sheet, if it fits the room.
     pub fn request(&self, sheet: &[u8], room: usize) -> Result<Vec<u8>, Refused> {
-        let (disks, request) = self.asked(sheet)?;
-        let plan = planner::plan(&disks, &request.copies);
+        let (disks, copies) = self.asked(sheet)?;
+        let plan = planner::plan(&disks, &copies);
         write_plan(self.number, self.tenancy(), &plan, room)
     }
 
     /// Why the plan of a request reads a block from a disk, or does not; after the request's own refusals 16.
     pub fn reason(&self, sheet: &[u8], block: u32, disk: u32) -> Result<Reason, Refused> {
-        let (disks, request) = self.asked(sheet)?;
-        if block as usize >= request.copies.len() || disk >= self.disks() {
+        let (disks, copies) = self.asked(sheet)?;
+        if block as usize >= copies.len() || disk >= self.disks() {
             return Err(NO_SUCH.nowhere());
         }
         let (block, disk) = (block as usize, disk as usize);
-        Ok(planner::reason(&disks, &request.copies, block, disk))
+        Ok(planner::reason(&disks, &copies, block, disk))
     }
 
     pub fn give_back(&mut self, tenancy: u32) -> Result<(), Refused> {
@@ -225,6 +233,49 @@ mod tests {
         assert_eq!(unit, fresh);
         unit.settings(&settings(1, 6)).unwrap();
         assert_eq!(time(&unit, 6, 0), 19);
+    }
+
+    /// Document 01's table, with disk 0 or others out.
+    #[test]
+    fn a_disk_that_is_out_holds_no_copy_in_use() {
+        let mut unit = Unit::new(7);
+        let marked = |marks: [u8; 3]| {
+            let [a, b, c] = marks;
+            [6, 7, 5, 3, 1, 4, 0, 1, a, 3, 2, 0, b, 10, 0, 0, c]
+        };
+        let p6 = [2, 7, 5, 4, 2, 0, 1, 2, 0, 1, 2, 0, 1, 2, 1, 2];
+        unit.rent(5).unwrap();
+        unit.settings(&marked([0, 0, 0])).unwrap();
+        let mut plain = Unit::new(7);
+        plain.rent(5).unwrap();
+        plain.settings(&SETTINGS).unwrap();
+        assert_eq!(unit, plain);
+        unit.settings(&marked([1, 0, 0])).unwrap();
+        let plan = [3, 7, 5, 4, 11, 1, 1, 1, 2, 3, 0, 1, 2];
+        assert_eq!(unit.request(&p6, 99), Ok(plan.to_vec()));
+        assert_eq!(unit.reason(&p6, 0, 0), Ok(Reason::NoCopy));
+        assert_eq!(unit.reason(&p6, 0, 1), Ok(Reason::Chosen));
+        assert_eq!(unit.reason(&p6, 3, 1), Ok(Reason::Later(14)));
+        assert_eq!(unit.reason(&p6, 3, 2), Ok(Reason::Chosen));
+        assert_eq!(unit.reason(&p6, 0, 3), Err(NO_SUCH.at(0)));
+        unit.settings(&marked([1, 1, 0])).unwrap();
+        assert_eq!(unit.request(&p6, 99), Err(ALL_OUT.at(6)));
+        assert_eq!(unit.reason(&p6, 9, 9), Err(ALL_OUT.at(6)));
+        unit.settings(&marked([1, 1, 1])).unwrap();
+        assert_eq!(unit.request(&[2, 7, 5, 0], 99), Ok(vec![3, 7, 5, 0, 0, 0]));
+        assert_eq!(unit.request(&[2, 7, 5, 1, 1, 2], 99), Err(ALL_OUT.at(5)));
+        assert_eq!(unit.settings(&marked([1, 1, 2])), Err(VALUE.at(16)));
+        assert_eq!(unit.request(&[2, 7, 5, 1, 1, 2], 99), Err(ALL_OUT.at(5)));
+        for kind in [1, 5] {
+            unit.settings(&marked([1, 1, 1])).unwrap();
+            unit.settings(&[&[kind], &SETTINGS[1..]].concat()).unwrap();
+            assert_eq!(unit.out(), 0);
+        }
+        unit.settings(&[6, 7, 5, 1, 2, 4, 0, 1, 1]).unwrap();
+        assert_eq!(unit.request(&[2, 7, 5, 1, 1, 1], 99), Err(NO_SUCH.at(5)));
+        unit.give_back(5).unwrap();
+        plain.give_back(5).unwrap();
+        assert_eq!(unit, plain);
     }
 
     #[test]

@@ -1,8 +1,8 @@
 //! Runs a file of sheet vectors against the three readers.
 
 use crate::hex;
-use crate::model::{disks_of, Plan, Rule, Table};
-use crate::sheets::{read_plan, read_request, read_settings, Request};
+use crate::model::{disks_of, holds, Plan, Rule, Table};
+use crate::sheets::{read_plan, read_request, read_settings, Known, Request};
 
 /// How many vectors hold, or the first that does not.
 pub fn run(text: &str) -> Result<String, String> {
@@ -26,7 +26,11 @@ pub fn run(text: &str) -> Result<String, String> {
 fn outcome(vector: &str) -> Option<String> {
     let words: Vec<&str> = vector.split(' ').collect();
     let (kind, sheet) = (*words.first()?, hex::read(words.last()?)?);
-    let numbers: Vec<u32> = words[1..words.len() - 1]
+    let (told, out) = match words[1..words.len() - 1] {
+        [ref numbers @ .., "out", out] => (numbers, out.parse().ok()?),
+        ref numbers => (numbers, 0),
+    };
+    let numbers: Vec<u32> = told
         .iter()
         .map(|word| word.parse().ok())
         .collect::<Option<_>>()?;
@@ -35,7 +39,8 @@ fn outcome(vector: &str) -> Option<String> {
             read_settings(&sheet, unit, tenancy).map(|table| show_table(&table))
         }
         ("request", &[unit, tenancy, disks]) => {
-            read_request(&sheet, unit, tenancy, disks).map(|request| show_request(&request))
+            read_request(&sheet, unit, tenancy, Known { disks, out })
+                .map(|request| show_request(&request))
         }
         ("plan", &[unit, tenancy]) => read_plan(&sheet, unit, tenancy).map(|plan| show_plan(&plan)),
         _ => return None,
@@ -56,8 +61,11 @@ fn show_table(table: &Table) -> String {
         words.push("larger".to_string());
     }
     words.push(table.rows.len().to_string());
-    let rows = table.rows.iter();
-    words.extend(rows.map(|row| join(&[row.cost, row.load, row.delay], ",")));
+    for (disk, row) in table.rows.iter().enumerate() {
+        let values = join(&[row.cost, row.load, row.delay], ",");
+        let mark = if holds(table.out, disk) { ",out" } else { "" };
+        words.push(values + mark);
+    }
     words.join(" ")
 }
 

@@ -15,7 +15,7 @@
 #include "rippleplank.h"
 #include "say.h"
 
-enum { FILL = 0xA5, GUARD = 32, MOST_ROOM = 1 << 20, MOST_WORDS = 8 };
+enum { FILL = 0xA5, GUARD = 32, MOST_ROOM = 1 << 20, MOST_WORDS = 9 };
 
 /* A lent buffer with guards before and after it. */
 struct lent {
@@ -104,6 +104,27 @@ static bool settings(const struct span *words, bool larger)
     return good;
 }
 
+/* ROOM UNIT TENANCY RULE COSTS LOADS DELAYS MARKS */
+static bool marked(const struct span *words)
+{
+    uint32_t room, unit, tenancy, rule;
+    uint8_t *lists[4] = { NULL, NULL, NULL, NULL };
+    size_t lens[4];
+    bool good = room_of(words[0], &room) && number_of(words[1], &unit) && number_of(words[2], &tenancy)
+        && number_of(words[3], &rule);
+    for (size_t i = 0; good && i < 4; i++)
+        good = list_of(words[4 + i], &lists[i], &lens[i]);
+    if (good) {
+        struct lent out = lend(room);
+        uint64_t answer = rp_write_settings_marked(unit, tenancy, rule, lists[0], lens[0], lists[1], lens[1], lists[2],
+            lens[2], lists[3], lens[3], out.at, out.len);
+        show_wrote(answer, &out);
+    }
+    for (size_t i = 0; i < 4; i++)
+        free(lists[i]);
+    return good;
+}
+
 /* ROOM KIND UNIT TENANCY AGE N COPIES */
 static bool request(const struct span *words)
 {
@@ -174,6 +195,8 @@ static bool answer_line(struct span line)
     size_t count = split(line, words);
     if (count == 7 && (is(words[0], "settings") || is(words[0], "larger")))
         return settings(words + 1, is(words[0], "larger"));
+    if (count == 9 && is(words[0], "marked"))
+        return marked(words + 1);
     if (count == 8 && is(words[0], "request"))
         return request(words + 1);
     if (count == 6 && is(words[0], "plan"))

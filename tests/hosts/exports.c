@@ -171,11 +171,11 @@ static uint64_t needs(uint32_t length)
 
 /* ---- settings ---- */
 
-static struct list costs, loads, delays;
+static struct list costs, loads, delays, marks;
 
 static void clear_rows(void)
 {
-    costs.len = loads.len = delays.len = 0;
+    costs.len = loads.len = delays.len = marks.len = 0;
 }
 
 static void add_row(uint32_t cost, uint32_t load, uint32_t delay)
@@ -201,7 +201,8 @@ static void settings_by(const struct writer *writer, const char *name, uint32_t 
     uint64_t expected = sheet == NULL ? refusal : (uint64_t)sheet->len * 4294967296u;
     const char *why = NULL;
     for (int i = 0; i < PLACES; i++)
-        if (writer->write(unit, tenancy, c.at[i], c.len, l.at[i], l.len, d.at[i], d.len, out.at[i], out.len) != expected)
+        if (writer->write(unit, tenancy, c.at[i], c.len, l.at[i], l.len, d.at[i], d.len, out.at[i], out.len)
+            != expected)
             why = "another answer";
     if (why == NULL && !(sheet == NULL ? is_unchanged(&out) : holds(&out, sheet->at, sheet->len)))
         why = "another buffer";
@@ -267,8 +268,7 @@ static void settings_ends(void)
         add_number(&longest, 100000000);
         add_number(&longest, 1000000);
     }
-    verdict("settings: the longest sheet is 652 bytes",
-        longest.len == 652 && RP_LONGEST_SETTINGS == 652 ? NULL : "it is not");
+    verdict("settings: the longest sheet of these kinds is 652 bytes", longest.len == 652 ? NULL : "it is not");
     settings("settings: 64 disks, the longest sheet, exact fit", 4294967295u, 4294967295u, 652, 0, &longest);
     settings("settings: the longest sheet, one byte less is 11", 4294967295u, 4294967295u, 651, needs(652), NULL);
     settings("settings: the longest sheet, 100 bytes is 11", 4294967295u, 4294967295u, 100, needs(652), NULL);
@@ -345,6 +345,156 @@ static void settings_lengths(void)
     settings_lists("settings: all broken alike, one byte more, is 6", 5, 5, 5);
     settings_lists("settings: all broken alike, half a number, is 6", 6, 6, 6);
     settings_lists("settings: lists of one byte is 6", 1, 1, 1);
+}
+
+/* ---- settings with marks ---- */
+
+static void add_marked(uint32_t cost, uint32_t load, uint32_t delay, uint32_t mark)
+{
+    add_row(cost, load, delay);
+    add_wide(&marks, mark, 4);
+}
+
+/* One call on the rows and marks as they stand. */
+static void marked(const char *name, uint32_t unit, uint32_t tenancy, uint32_t rule, size_t room, uint64_t refusal,
+    const struct list *sheet)
+{
+    struct lent c = lend_list(&costs), l = lend_list(&loads), d = lend_list(&delays), m = lend_list(&marks);
+    struct lent out = lend_room(room);
+    uint64_t expected = sheet == NULL ? refusal : (uint64_t)sheet->len * 4294967296u;
+    const char *why = NULL;
+    for (int i = 0; i < PLACES; i++)
+        if (rp_write_settings_marked(unit, tenancy, rule, c.at[i], c.len, l.at[i], l.len, d.at[i], d.len, m.at[i],
+            m.len, out.at[i], out.len) != expected)
+            why = "another answer";
+    if (why == NULL && !(sheet == NULL ? is_unchanged(&out) : holds(&out, sheet->at, sheet->len)))
+        why = "another buffer";
+    if (why == NULL && (!is_unchanged(&c) || !is_unchanged(&l) || !is_unchanged(&d) || !is_unchanged(&m)))
+        why = "a list was changed";
+    verdict(name, why);
+    give_back(&c);
+    give_back(&l);
+    give_back(&d);
+    give_back(&m);
+    give_back(&out);
+}
+
+/* Document 01's rows, with disk 1 out. */
+static void marked_rows(void)
+{
+    clear_rows();
+    add_marked(4, 0, 1, 0);
+    add_marked(3, 2, 0, 1);
+    add_marked(10, 0, 0, 0);
+}
+
+static void marked_sample(void)
+{
+    static const uint32_t RULES[] = { 0, 3, 257, 4294967295u };
+    const struct list *sheet = sheet_of("06 07 AC 02 03 01 04 00 01 00 03 02 00 01 0A 00 00 00");
+    char title[64];
+    marked_rows();
+    marked("marked: disk 1 is out, exact fit", 7, 300, 1, 18, 0, sheet);
+    marked("marked: one byte more stays as it was", 7, 300, 1, 19, 0, sheet);
+    marked("marked: a long buffer stays as it was beyond", 7, 300, 1, 717, 0, sheet);
+    marked("marked: the larger is rule 2", 7, 300, 2, 18, 0,
+        sheet_of("06 07 AC 02 03 02 04 00 01 00 03 02 00 01 0A 00 00 00"));
+    marked("marked: one byte less is 11, and 18 were needed", 7, 300, 1, 17, needs(18), NULL);
+    marked("marked: no room is 11, and 18 were needed", 7, 300, 1, 0, needs(18), NULL);
+    marked("marked: tenancy 0 is 6", 7, 0, 1, 717, 6, NULL);
+    marked("marked: tenancy 0 is 6 before the rule", 7, 0, 3, 717, 6, NULL);
+    for (size_t i = 0; i < sizeof RULES / sizeof RULES[0]; i++) {
+        snprintf(title, sizeof title, "marked: rule %u is 15", (unsigned)RULES[i]);
+        marked(title, 7, 300, RULES[i], 717, 15, NULL);
+        snprintf(title, sizeof title, "marked: rule %u is 15 before 11", (unsigned)RULES[i]);
+        marked(title, 7, 300, RULES[i], 0, 15, NULL);
+    }
+}
+
+static void marked_ends(void)
+{
+    static struct list longest;
+    clear_rows();
+    add_marked(1, 0, 0, 0);
+    marked("marked: the least of everything", 0, 1, 1, 9, 0, sheet_of("06 00 01 01 01 01 00 00 00"));
+    clear_rows();
+    longest = *sheet_of("06 FF FF FF FF 0F FF FF FF FF 0F 40 02");
+    for (int i = 0; i < 64; i++) {
+        add_marked(1000000, 100000000, 1000000, 1);
+        add_number(&longest, 1000000);
+        add_number(&longest, 100000000);
+        add_number(&longest, 1000000);
+        add_number(&longest, 1);
+    }
+    verdict("marked: the longest sheet is 717 bytes",
+        longest.len == 717 && RP_LONGEST_SETTINGS == 717 ? NULL : "it is not");
+    marked("marked: 64 disks, all out, the longest sheet, exact fit", 4294967295u, 4294967295u, 2, 717, 0, &longest);
+    marked("marked: the longest sheet, one byte less is 11", 4294967295u, 4294967295u, 2, 716, needs(717), NULL);
+    add_marked(1, 0, 0, 0);
+    marked("marked: 65 disks is 6", 7, 300, 1, 717, 6, NULL);
+    marked("marked: 65 disks is 6 before the rule", 7, 300, 3, 0, 6, NULL);
+    clear_rows();
+    marked("marked: no disks is 6", 7, 300, 1, 717, 6, NULL);
+    marked("marked: no disks is 6 before the rule", 7, 300, 0, 717, 6, NULL);
+}
+
+static void marked_ranges(void)
+{
+    static const uint32_t MARKS[] = { 2, 3, 256, 257, 65536, 16777216, 4294967295u };
+    char title[64];
+    for (size_t i = 0; i < sizeof MARKS / sizeof MARKS[0]; i++) {
+        marked_rows();
+        marks.len = 4;
+        add_wide(&marks, MARKS[i], 4);
+        add_wide(&marks, 0, 4);
+        snprintf(title, sizeof title, "marked: mark %u is 15", (unsigned)MARKS[i]);
+        marked(title, 7, 300, 1, 717, 15, NULL);
+        snprintf(title, sizeof title, "marked: mark %u is 15 before 11", (unsigned)MARKS[i]);
+        marked(title, 7, 300, 2, 0, 15, NULL);
+        snprintf(title, sizeof title, "marked: tenancy 0 is 6 before mark %u", (unsigned)MARKS[i]);
+        marked(title, 7, 0, 1, 717, 6, NULL);
+    }
+    clear_rows();
+    add_marked(1, 0, 0, 0);
+    add_marked(1, 0, 0, 2);
+    marked("marked: a last mark of 2 is 15", 7, 300, 1, 717, 15, NULL);
+    clear_rows();
+    add_marked(0, 0, 0, 1);
+    marked("marked: cost 0 of a disk that is out is 15", 7, 300, 1, 717, 15, NULL);
+    clear_rows();
+    add_marked(1, 100000001, 0, 1);
+    marked("marked: load 100,000,001 of a disk that is out is 15", 7, 300, 1, 717, 15, NULL);
+    clear_rows();
+    add_marked(1, 0, 1000001, 0);
+    marked("marked: delay 1,000,001 is 15", 7, 300, 1, 717, 15, NULL);
+}
+
+/* The rows with each list in turn too short, too long and broken. */
+static void marked_lengths(void)
+{
+    static struct list *const LISTS[] = { &costs, &loads, &delays, &marks };
+    static const char *const NAMES[] = { "costs", "loads", "delays", "marks" };
+    char title[64];
+    for (size_t i = 0; i < 4; i++) {
+        marked_rows();
+        LISTS[i]->len = 8;
+        snprintf(title, sizeof title, "marked: %s of 8 bytes is 6", NAMES[i]);
+        marked(title, 7, 300, 1, 717, 6, NULL);
+        snprintf(title, sizeof title, "marked: %s of 8 bytes is 6 before the rule", NAMES[i]);
+        marked(title, 7, 300, 3, 717, 6, NULL);
+        LISTS[i]->len = 0;
+        snprintf(title, sizeof title, "marked: no %s is 6", NAMES[i]);
+        marked(title, 7, 300, 1, 717, 6, NULL);
+        LISTS[i]->len = 11;
+        snprintf(title, sizeof title, "marked: %s broken inside a number is 6", NAMES[i]);
+        marked(title, 7, 300, 1, 717, 6, NULL);
+        LISTS[i]->len = 16;
+        snprintf(title, sizeof title, "marked: %s of 16 bytes is 6", NAMES[i]);
+        marked(title, 7, 300, 1, 717, 6, NULL);
+    }
+    marked_rows();
+    costs.len = loads.len = delays.len = marks.len = 10;
+    marked("marked: all broken alike is 6", 7, 300, 1, 717, 6, NULL);
 }
 
 /* ---- requests ---- */
@@ -832,6 +982,11 @@ static void worked(void)
     loads.len = 12;
     costs.at[4] = 0;
     settings("worked: settings, a cost of 0", 7, 300, 13, 0x000000000000000Fu, NULL);
+    marked_rows();
+    marked("worked: marked, 17 bytes", 7, 300, 2, 17, 0x000000120000000Bu, NULL);
+    marked("worked: marked, rule 3", 7, 300, 3, 18, 0x000000000000000Fu, NULL);
+    marks.len = 8;
+    marked("worked: marked, marks of 8 bytes", 7, 300, 3, 18, 0x0000000000000006u, NULL);
     set_copies((uint64_t[]){ 3, 3, 3, 6, 0 }, 4);
     request("worked: request, 16 bytes", 7, 300, 3, 16, 0x000000110000000Bu, NULL);
     request("worked: request, of 2 disks", 7, 300, 2, 17, 0x0000000000000010u, NULL);
@@ -843,18 +998,29 @@ static void worked(void)
     request_of("worked: request, 17 bytes for one with an age", 4, 7, 300, 5, 3, 17, 0x000000120000000Bu, NULL);
 }
 
+/* Whether a number is no refusal. */
+static bool is_none(unsigned refusal)
+{
+    return strcmp(rp_refusal_words(refusal), "not a refusal of this version") == 0;
+}
+
 static void words(void)
 {
     const char *why = NULL;
-    for (unsigned i = 0; i <= 17; i++)
+    for (unsigned i = 0; i <= RP_ALL_OUT; i++)
         for (unsigned j = 0; j < i; j++)
-            if (strcmp(rp_refusal_words(i), rp_refusal_words(j)) == 0)
+            if (strcmp(rp_refusal_words(i), rp_refusal_words(j)) == 0 && !is_none(i))
                 why = "two have the same";
     verdict("words: every refusal has its own", why);
+    verdict("words: a number that is no refusal has none", is_none(17) && is_none(18) && is_none(19) && is_none(21)
+            && is_none(255) && !is_none(RP_BAD_INDEX) && !is_none(RP_ALL_OUT) ? NULL : "it has");
     verdict("words: 15 and 16 tell what may be out of range",
-        strcmp(rp_refusal_words(RP_BAD_AMOUNT), "a cost, load, delay or plan time is out of its range, or a request of kind 2 has an age") == 0
+        strcmp(rp_refusal_words(RP_BAD_AMOUNT),
+            "a cost, load, delay, rule, mark or plan time is out of its range, or a request of kind 2 has an age") == 0
             && strcmp(rp_refusal_words(RP_BAD_INDEX), "a disk or block number is out of its range") == 0
             && RP_BAD_AMOUNT == 15 && RP_BAD_INDEX == 16 ? NULL : "they are not");
+    verdict("words: 20", strcmp(rp_refusal_words(RP_ALL_OUT), "all copies of a block are out") == 0 && RP_ALL_OUT == 20
+            ? NULL : "they are not");
 }
 
 static void lists(void)
@@ -877,6 +1043,10 @@ int main(void)
     settings_ends();
     settings_ranges();
     settings_lengths();
+    marked_sample();
+    marked_ends();
+    marked_ranges();
+    marked_lengths();
     request_sample();
     request_no_blocks();
     request_copies();

@@ -66,6 +66,7 @@ static const char *const TABLES[] = {
     "disk;Cost;Load;Delay\r\n0;4;0;1\r\n1;3;2;0\r\n2;10;0;0\r\n;;;\r\n",
     "# a comment\n\n\"delay\"\t\"cost\"\t\"load\"\n1\t4\t0 # so\n\n0\t3\t2\n0\t10\t0\n",
     "sep=,\ncost,load,delay,\n1000000,100000000,1000000,\n# 1,2,3\n1,0,0,\n1,0,0,\n",
+    "disk,cost,load,delay,out\n0,4,0,1,in\n1,3,2,0,0\n2,10,0,0,out\n",
 };
 static const char *const LISTS[] = {
     "0 1\n0 1\n0 1\n1 2\n",
@@ -104,10 +105,19 @@ static const char WHYS[] = "rented\nset\nreason 1 0\nplan " PLAN "\nreason 2 10\
 /* Kinds of input: texts, the sheets themselves, and last calls and answers to them. */
 enum { TABLE, LIST, TEXT_SHEET, BYTE_SHEET, CALLS, WHY_CALLS, ANSWERS, KINDS };
 
+/* Settings of a newer kind. */
+static uint64_t add_newer(const uint8_t *list, const uint8_t *marks, size_t len, uint8_t *out, size_t out_len)
+{
+    if (chance(2) == 0)
+        return rp_write_settings_overlap(7, 300, list, len, list, len, list, len, out, out_len);
+    return rp_write_settings_marked(7, 300, (uint32_t)(1 + chance(2)), list, len, list, len, list, len, marks, len, out,
+        out_len);
+}
+
 /* A sheet as bytes: settings or a request, of the first kinds or of newer ones, or a plan. */
 static void add_bytes(struct bytes *into)
 {
-    static uint8_t list[8 * RP_MOST_BLOCKS], out[RP_LONGEST_REQUEST];
+    static uint8_t list[8 * RP_MOST_BLOCKS], marks[4 * RP_MOST_DISKS], out[RP_LONGEST_REQUEST];
     uint64_t which = chance(4), count = 1 + chance(which == 0 ? RP_MOST_DISKS : 40);
     uint64_t answer;
     bool newer = chance(2) == 0;
@@ -116,14 +126,15 @@ static void add_bytes(struct bytes *into)
         return;
     }
     for (uint64_t i = 0; i < count; i++) {
-        if (which == 0)
+        if (which == 0) {
             rp_put32(list, i, (uint32_t)(1 + chance(RP_MOST_COST)));
-        else
+            rp_put32(marks, i, (uint32_t)chance(2));
+        } else
             rp_put64(list, i, (uint64_t)1 << chance(6) | (uint64_t)1 << chance(6));
     }
     if (which == 0)
-        answer = (newer ? rp_write_settings_overlap : rp_write_settings)(7, 300, list, 4 * count, list, 4 * count, list,
-            4 * count, out, sizeof out);
+        answer = newer ? add_newer(list, marks, 4 * count, out, sizeof out)
+            : rp_write_settings(7, 300, list, 4 * count, list, 4 * count, list, 4 * count, out, sizeof out);
     else
         answer = rp_write_request(newer ? RP_AGED_REQUEST : RP_REQUEST, 7, 300, newer ? (uint32_t)chance(1000) : 0, 6,
             list, 8 * count, out, sizeof out);
@@ -155,7 +166,7 @@ static void add_good(struct bytes *into, unsigned kind)
 static const char *const PIECES[] = {
     "4294967295", "4294967296", "0", "-1", "63", "64", "65", "1000001", "\"", "\"\"", "#", ",", ";", "\t", "\r", "\n",
     "\r\n", ":", "-", "block 3:", "disk", "cost,load,delay\n", "sep=;\n", "*\n", "00000000: ", "0000010 ",
-    "refused 5\n", "refused 16 3\n", "refused 11 15\n", "refused 6 7 8\n", "refused 16 3", "refused 016 3\n",
+    "refused 5\n", "refused 16 3\n", "refused 11 15\n", "refused 6 7 8\n", "refused 20 7\n", "refused 16 3", "out", "in", ",out\n", "refused 016 3\n",
     "stopped 3\n", "plan ", "plan " PLAN "\n", "rented\n", "reason 2 10\n", "reason 6 0\n", "reason 4 0", "\xEF\xBB\xBF", "\xFF\xFE", "\xFE\xFF", "\xC3\xA4",
     "\x1B[31m", "%s%n", "\x80", "\x80\x00",
     "\xFF\xFF\xFF\xFF\x0F", "\xFF\xFF\xFF\xFF\x10", "|", "  ", "\x7F", ",,,,,,,,,,,,,,,,,,,,",

@@ -26,6 +26,12 @@ replicate-at a (suc n) (suc i) = replicate-at a n i
 
 -- ---- value by value
 
+-- the first of as many or more
+pub take-replicate : {A : Type 0} (a : A) (n m : ℕ) → n ≤ m → take n (replicate m a) ≡ replicate n a
+take-replicate a zero m h = refl
+take-replicate a (suc n) zero h = absurd (omega arith)
+take-replicate a (suc n) (suc m) h = ap (λ xs. a ∷ xs) (take-replicate a n m (omega arith))
+
 pub all-at : {A : Type 0} (P : A → Type 0) (xs : List A) → All P xs → (i : ℕ) (z : A) → i < length xs → P (getD xs i z)
 unfolding All
 all-at P [] h i z l = absurd (omega arith)

@@ -32,7 +32,7 @@ abbrev pub timeMost : ℕ
 timeMost = 1125000000
 
 abbrev pub settingsMost : ℕ
-settingsMost = 652
+settingsMost = 717
 
 abbrev pub requestMost : ℕ
 requestMost = 9234
@@ -47,4 +47,4 @@ abbrev pub nodesMost : ℕ
 nodesMost = 1089
 
 abbrev pub refusalsMost : ℕ
-refusalsMost = 16
+refusalsMost = 20

@@ -20,7 +20,7 @@ pub const START_MOST: u32 = 101000000;
 pub const TIME_MOST: u32 = 1125000000;
 
 // The longest sheets, in bytes.
-pub const SETTINGS_MOST: usize = 652;
+pub const SETTINGS_MOST: usize = 717;
 
 pub const REQUEST_MOST: usize = 9234;
 

@@ -7,7 +7,7 @@
 --     plan-placed                         a byte of the sheet, or its end
 --     plan-enough                         lists of the entries that 11 told
 --     plan-taken, set-taken   what it takes out of the plan reader's answer, and out of the bytes of the short set
---     settings-of-numbers, request-of-numbers     lists laid out as bytes give the sheets of those lists
+--     settings-of-numbers, marked-of-numbers, request-of-numbers     lists laid out as bytes give the sheets of those lists
 use mathlib.Core.Path.{_≡_, refl, sym, ap, _∙_, subst}
 use mathlib.Core.Bool.{false}
 use mathlib.Core.List.{List}
@@ -26,7 +26,7 @@ use Rattle.field.specs.Sheet.{Note, note, Out, got, refused}
 use Rattle.field.proofs.Known.{Known, Answers}
 use Rattle.basics.specs.Lists.{All}
 use Rattle.model.specs.declared.Rule.{Rule}
-use Rattle.settings.specs.Draft.{settingsDraft}
+use Rattle.settings.specs.Draft.{settingsDraft, markedDraft}
 use Rattle.request.specs.Draft.{requestDraft}
 use Rattle.plan.specs.Plan.{Plan, planSheet}
 use Rattle.plan.proofs.Known.{numbered-plan}
@@ -37,7 +37,8 @@ use Rattle.basics.specs.Buffer.{over}
 use Rattle.basics.proofs.Buffer.{over-front}
 use Rattle.lent.specs.Numbers.{bytesOf, numbers, broken}
 use Rattle.lent.specs.Packed.{lengths, packRefused, writerAnswer, readerAnswer, refusalIn, placeIn, lengthIn}
-use Rattle.desk.specs.Desk.{settingsDraftOfBytes, tenancyWith, requestDraftOfBytes, Exported, planIfRoom, setLeft, PlanRead}
+use Rattle.desk.specs.Desk.{brokenRows, settingsDraftOfBytes, markedDraftOfBytes, tenancyWith, requestDraftOfBytes}
+use Rattle.desk.specs.Desk.{Exported, planIfRoom, setLeft, PlanRead}
 use Rattle.lent.proofs.Numbers.{spell-length, numbers-length, numbers-spell}
 use Rattle.lent.proofs.Packed.{Unpacked, Refuses, written-unpacks, plan-unpacks, refusal-unpacks, refusal-number}
 use Rattle.desk.proofs.Reading.{Packable, plan-packable-room}
@@ -251,14 +252,27 @@ unfolding broken
 whole-spell w xs = le-ltb 0 (length (spellAll (bytesOf w) xs) % w)
     (omega (arith, ap (λ (k : ℕ). k % w) (spell-length w xs), mul-mod-right w (length xs)))
 
+rows-spell : (cs ls ds : List ℕ) → brokenRows (spellAll (bytesOf 4) cs) (spellAll (bytesOf 4) ls) (spellAll (bytesOf 4) ds) ≡ false
+unfolding brokenRows
+rows-spell cs ls ds = rw (whole-spell 4 cs, whole-spell 4 ls, whole-spell 4 ds)
+
 pub settings-of-numbers : (r : Rule) (unit t : ℕ) (cs ls ds : List ℕ) → All (λ (x : ℕ). x < 256 ^ 4) cs → All (λ (x : ℕ). x < 256 ^ 4) ls
     → All (λ (x : ℕ). x < 256 ^ 4) ds
     → settingsDraftOfBytes r unit t (spellAll (bytesOf 4) cs) (spellAll (bytesOf 4) ls) (spellAll (bytesOf 4) ds)
     ≡ settingsDraft r unit t cs ls ds
 unfolding settingsDraftOfBytes
 settings-of-numbers r unit t cs ls ds c l d =
-    pick-false _ _ (rw (whole-spell 4 cs, whole-spell 4 ls, whole-spell 4 ds))
+    pick-false _ _ (rows-spell cs ls ds)
     ∙ rw (numbers-spell 4 cs (lit< tt) c, numbers-spell 4 ls (lit< tt) l, numbers-spell 4 ds (lit< tt) d)
+
+pub marked-of-numbers : (unit t r : ℕ) (cs ls ds ms : List ℕ) → All (λ (x : ℕ). x < 256 ^ 4) cs → All (λ (x : ℕ). x < 256 ^ 4) ls
+    → All (λ (x : ℕ). x < 256 ^ 4) ds → All (λ (x : ℕ). x < 256 ^ 4) ms
+    → markedDraftOfBytes unit t r (spellAll (bytesOf 4) cs) (spellAll (bytesOf 4) ls) (spellAll (bytesOf 4) ds) (spellAll (bytesOf 4) ms)
+    ≡ markedDraft unit t r cs ls ds ms
+unfolding markedDraftOfBytes
+marked-of-numbers unit t r cs ls ds ms c l d m =
+    pick-false _ _ (rw (rows-spell cs ls ds) (whole-spell 4 ms))
+    ∙ rw (numbers-spell 4 cs (lit< tt) c, numbers-spell 4 ls (lit< tt) l, numbers-spell 4 ds (lit< tt) d, numbers-spell 4 ms (lit< tt) m)
 
 pub request-of-numbers : (k unit t a n : ℕ) (ms : List ℕ) → All (λ (x : ℕ). x < 256 ^ 8) ms
     → requestDraftOfBytes k unit t a n (spellAll (bytesOf 8) ms) ≡ requestDraft k unit t a n ms

@@ -13,9 +13,23 @@ ghost use lib.ListN.{length};
 ghost use Rattle.basics.specs.Limits.{disksMost};
 ghost use Rattle.field.specs.Send.{Sent};
 ghost use Rattle.model.specs.declared.Rule.the-variants.{Sum, Larger};
-ghost use Rattle.settings.specs.Draft.{settingsDraft};
+ghost use Rattle.settings.specs.Draft.{settingsDraft, markedDraft};
 ghost use Rattle.lent.specs.Numbers.{numbers};
-ghost use Rattle.desk.specs.Desk.{settingsDraftOfBytes, tenancyWith, requestDraftOfBytes, Exported, PlanRead};
+ghost use Rattle.desk.specs.Desk.{usableRows, settingsDraftOfBytes, markedDraftOfBytes};
+ghost use Rattle.desk.specs.Desk.{tenancyWith, requestDraftOfBytes, Exported, PlanRead};
+
+// Whether lists of costs, loads and delays are whole, and none is too long.
+fn rows_usable(costs: &[u8], loads: &[u8], delays: &[u8]) -> bool
+    ensures { λ r. ⌜ r ≡ usableRows (now (costs .entry)) (now (loads .entry)) (now (delays .entry)) ⌝ }
+{
+    if !lent::usable(costs, 4, DISKS) {
+        return false;
+    }
+    if !lent::usable(loads, 4, DISKS) {
+        return false;
+    }
+    lent::usable(delays, 4, DISKS)
+}
 
 // Writes the settings sheet of lists that are whole and not too long.
 fn send_settings(
@@ -55,19 +69,7 @@ fn write_settings(
     ensures { λ r. ⌜ Exported (settingsDraftOfBytes rule unit tenancy (now (costs .entry)) (now (loads .entry)) (now (delays .entry)))
         (now (out .entry)) r (now (out .exit)) ⌝ }
 {
-    if !lent::usable(costs, 4, DISKS) {
-        return lent::refuse(Fault {
-            refusal: Refusal::OutOfRange,
-            place: 0,
-        });
-    }
-    if !lent::usable(loads, 4, DISKS) {
-        return lent::refuse(Fault {
-            refusal: Refusal::OutOfRange,
-            place: 0,
-        });
-    }
-    if !lent::usable(delays, 4, DISKS) {
+    if !rows_usable(costs, loads, delays) {
         return lent::refuse(Fault {
             refusal: Refusal::OutOfRange,
             place: 0,
@@ -106,6 +108,76 @@ pub extern "C" fn rp_write_settings_overlap(
         (now (out .entry)) r (now (out .exit)) ⌝ }
 {
     write_settings(Rule::Larger, unit, tenancy, costs, loads, delays, out)
+}
+
+// Writes the settings sheet with marks of lists that are whole and not too long.
+fn send_marked(
+    unit: u32,
+    tenancy: u32,
+    rule: u32,
+    costs: &[u8],
+    loads: &[u8],
+    delays: &[u8],
+    marks: &[u8],
+    out: &mut [u8],
+) -> Written
+    requires { ⌜ (length (now costs) / 4 ≤ disksMost) × (length (now loads) / 4 ≤ disksMost) × (length (now delays) / 4 ≤ disksMost)
+        × (length (now marks) / 4 ≤ disksMost) ⌝ }
+    ensures { λ r. ⌜ Sent
+        (markedDraft unit tenancy rule (numbers 4 (now (costs .entry))) (numbers 4 (now (loads .entry))) (numbers 4 (now (delays .entry)))
+        (numbers 4 (now (marks .entry))))
+        (now (out .entry)) r (now (out .exit)) ⌝ }
+{
+    let c = lent::fours(costs);
+    let l = lent::fours(loads);
+    let d = lent::fours(delays);
+    let m = lent::fours(marks);
+    let disks = costs.len() / 4;
+    let k = loads.len() / 4;
+    let n = delays.len() / 4;
+    let e = marks.len() / 4;
+    settings::write_marked(
+        unit,
+        tenancy,
+        rule,
+        &c[..disks],
+        &l[..k],
+        &d[..n],
+        &m[..e],
+        out,
+    )
+}
+
+// Writes a settings sheet of kind 6: the start rule, 1 for the sum of delay and load and 2 for the larger; four bytes for each cost, load,
+// delay and mark, 0 in use and 1 out.
+#[no_mangle]
+pub extern "C" fn rp_write_settings_marked(
+    unit: u32,
+    tenancy: u32,
+    rule: u32,
+    costs: &[u8],
+    loads: &[u8],
+    delays: &[u8],
+    marks: &[u8],
+    out: &mut [u8],
+) -> u64
+    ensures { λ r. ⌜ Exported
+        (markedDraftOfBytes unit tenancy rule (now (costs .entry)) (now (loads .entry)) (now (delays .entry)) (now (marks .entry)))
+        (now (out .entry)) r (now (out .exit)) ⌝ }
+{
+    if !rows_usable(costs, loads, delays) {
+        return lent::refuse(Fault {
+            refusal: Refusal::OutOfRange,
+            place: 0,
+        });
+    }
+    if !lent::usable(marks, 4, DISKS) {
+        return lent::refuse(Fault {
+            refusal: Refusal::OutOfRange,
+            place: 0,
+        });
+    }
+    lent::pack_written(send_marked(unit, tenancy, rule, costs, loads, delays, marks, out))
 }
 
 // The tenancy that a writer takes: 0, with which it refuses, where a list ends inside a number.

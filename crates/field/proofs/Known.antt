@@ -1,12 +1,15 @@
--- Every refusal has one of the table's numbers, 1 to 16: so 0 in an answer's lowest bits says that it was accepted.
+-- Every refusal has one of the table's numbers, 1 to 16 and 20: so 0 in an answer's lowest bits says that it was accepted.
 --     Known            a number of the table
 --     Own              one of a reader's own: 11 is of a lent buffer or list alone (`own-six`, ..)
---     Answers          what reading gives is accepted, or is refused with one of those
---     Numbered         a reader that gives nothing else
+--     Says, Refuses    what reading gives is accepted, or is refused as something says; a reader that gives nothing else
+--     Answers, Numbered     the same, with a reader's own numbers
+--     Shared           the refusals that the fields of all sheets share (`refuses-number`, ..)
+--     refused-so       what is known of a refusal
 --     refusal-known    the numbers of the refusals that the code has
 use Prim.Native.Nat.{ℕ, zero, suc, _+_, _≤_}
 use mathlib.Core.Bool.{Bool}
-use mathlib.Core.Path.{_≡_}
+use mathlib.Core.Logic.{_⊎_, inl, inr, ⊎-elim}
+use mathlib.Core.Path.{_≡_, refl, subst}
 use mathlib.Core.List.{List, [], _∷_}
 use native.Mathlib.Omega.{arith}
 use lib.ListN.{length, drop}
@@ -16,49 +19,31 @@ use Rattle.number.specs.Decode.{Decoded, value, under, more, decode, refused as
 use Rattle.field.specs.declared.Refusal.{Refusal}
 use Rattle.field.specs.declared.Refusal.the-variants.{SheetEnds, BadNumber, WrongKind, WrongUnit, WrongTenancy, OutOfRange, NoCopy}
 use Rattle.field.specs.declared.Refusal.the-variants.{NotRising, BytesFollow, NoSettings, NoRoom, Rented, NotAbove, NotTheTenant}
-use Rattle.field.specs.declared.Refusal.the-variants.{BadAmount, BadIndex}
+use Rattle.field.specs.declared.Refusal.the-variants.{BadAmount, BadIndex, AllOut}
 use Rattle.field.specs.Refusal.{numberOf}
-use Rattle.field.specs.Sheet.{Note, Out, got, refused, Parser, andThen, _>>=_, _>>_, pure, here, require, times}
+use Rattle.field.specs.Sheet.{Note, note, Out, got, refused, Parser, andThen, _>>=_, _>>_, pure, here, require, times}
 use Rattle.field.specs.Field.{taken, number, between, inside, ascending, kind, addressed, opening, end, whole}
 
 abbrev pub Known : ℕ → Type 0
 Known n = (1 ≤ n) × (n ≤ refusalsMost)
 
-known : {n : ℕ} → 1 ≤ n → n ≤ 16 → Known n
+known : {n : ℕ} → 1 ≤ n → n ≤ refusalsMost → Known n
 known l m = (l, m)
 
 abbrev pub Own : ℕ → Type 0
 Own n = Known n × (n ≡ 11 → ⊥)
 
-own : {n : ℕ} → 1 ≤ n → n ≤ 16 → (n ≡ 11 → ⊥) → Own n
+own : {n : ℕ} → 1 ≤ n → n ≤ refusalsMost → (n ≡ 11 → ⊥) → Own n
 own l m z = ((l, m), z)
-
-own-one : Own 1
-own-one = own (omega arith) (omega arith) (λ z. omega (arith, z))
-
-own-two : Own 2
-own-two = own (omega arith) (omega arith) (λ z. omega (arith, z))
 
 pub own-three : Own 3
 own-three = own (omega arith) (omega arith) (λ z. omega (arith, z))
-
-own-four : Own 4
-own-four = own (omega arith) (omega arith) (λ z. omega (arith, z))
-
-own-five : Own 5
-own-five = own (omega arith) (omega arith) (λ z. omega (arith, z))
 
 pub own-six : Own 6
 own-six = own (omega arith) (omega arith) (λ z. omega (arith, z))
 
 pub own-seven : Own 7
 own-seven = own (omega arith) (omega arith) (λ z. omega (arith, z))
-
-own-eight : Own 8
-own-eight = own (omega arith) (omega arith) (λ z. omega (arith, z))
-
-own-nine : Own 9
-own-nine = own (omega arith) (omega arith) (λ z. omega (arith, z))
 
 pub own-ten : Own 10
 own-ten = own (omega arith) (omega arith) (λ z. omega (arith, z))
@@ -69,51 +54,84 @@ own-fifteen = own (omega arith) (omega arith) (λ z. omega (arith, z))
 pub own-sixteen : Own 16
 own-sixteen = own (omega arith) (omega arith) (λ z. omega (arith, z))
 
-unfoldable pub Answers : {A : Type 0} → Out A → Type 0
-Answers (got a e) = Unit
-Answers (refused n) = Own (n .number)
+pub own-twenty : Own 20
+own-twenty = own (omega arith) (omega arith) (λ z. omega (arith, z))
 
-pub record Numbered {A : Type 0} (p : Parser A) : Type 0 where
-  pub answers : (s : List ℕ) (at : ℕ) → Answers (p s at)
+abbrev pub Says : {A : Type 0} → (Note → Type 0) → Out A → Type 0
+Says P (got a e) = Unit
+Says P (refused n) = P n
+
+-- of a sheet and a refusal
+pub record Refuses {A : Type 0} (P : List ℕ → Note → Type 0) (p : Parser A) : Type 0 where
+  pub answers : (s : List ℕ) (at : ℕ) → Says (P s) (p s at)
+
+abbrev pub Owned : Note → Type 0
+Owned n = Own (n .number)
+
+unfoldable abbrev pub Answers : {A : Type 0} → Out A → Type 0
+unfolding Says
+Answers o = Says Owned o
+
+abbrev pub Numbered : {A : Type 0} → Parser A → Type 0
+Numbered p = Refuses (λ _. Owned) p
 
 -- ---- one reader after another
 
-module _ {A B : Type 0} where
-  after : (o : Out A) (k : A → ℕ → Out B) → Answers o → ((a : A) (n : ℕ) → Answers (k a n)) → Answers (andThen o k)
-  unfolding andThen Answers
-  after (got a n) k h f = f a n
-  after (refused e) k h f = h
+pub says-after : (P : Note → Type 0) {A B : Type 0} (o : Out A) (k : A → ℕ → Out B) → Says P o
+    → ((a : A) (n : ℕ) → o ≡ got a n → Says P (k a n)) → Says P (andThen o k)
+unfolding andThen
+says-after P (got a n) k h f = f a n refl
+says-after P (refused e) k h f = h
 
-  pub numbered-bind : {p : Parser A} {k : A → Parser B} → Numbered p → ((a : A) → Numbered (k a)) → Numbered (p >>= k)
+module _ {P : List ℕ → Note → Type 0} {A B : Type 0} where
+  pub numbered-bind : {p : Parser A} {k : A → Parser B} → Refuses P p → ((a : A) → Refuses P (k a)) → Refuses P (p >>= k)
   unfolding _>>=_
-  numbered-bind {p} {k} h f = record { answers = λ s at. after (p s at) (λ a n. k a s n) (h .answers s at) (λ a n. f a .answers s n) }
+  numbered-bind {p} {k} h f =
+      record { answers = λ s at. says-after (P s) (p s at) (λ a n. k a s n) (h .answers s at) (λ a n _. f a .answers s n) }
 
-  pub numbered-then : {p : Parser A} {q : Parser B} → Numbered p → Numbered q → Numbered (p >> q)
+  pub numbered-then : {p : Parser A} {q : Parser B} → Refuses P p → Refuses P q → Refuses P (p >> q)
   unfolding _>>_
-  numbered-then {p} {q} h f = record { answers = λ s at. after (p s at) (λ a n. q s n) (h .answers s at) (λ a n. f .answers s n) }
+  numbered-then {p} {q} h f =
+      record { answers = λ s at. says-after (P s) (p s at) (λ a n. q s n) (h .answers s at) (λ a n _. f .answers s n) }
 
-pub numbered-pure : {A : Type 0} (a : A) → Numbered (pure a)
-unfolding pure Answers
-numbered-pure a = record { answers = λ s at. tt }
+module _ {P : List ℕ → Note → Type 0} where
+  pub numbered-pure : {A : Type 0} (a : A) → Refuses P (pure a)
+  unfolding pure
+  numbered-pure a = record { answers = λ s at. tt }
 
-pub numbered-here : Numbered here
-unfolding here Answers
-numbered-here = record { answers = λ s at. tt }
+  pub numbered-here : Refuses P here
+  unfolding here
+  numbered-here = record { answers = λ s at. tt }
 
-pub numbered-require : (b : Bool) (e : Note) → Own (e .number) → Numbered (require b e)
-unfolding require Answers
-numbered-require b e h = record { answers = λ s at. pick-elim Answers b _ _ (λ _. tt) (λ _. h) }
+  pub numbered-require : (b : Bool) (e : Note) → ((s : List ℕ) → P s e) → Refuses P (require b e)
+  unfolding require
+  numbered-require b e h = record { answers = λ s at. pick-elim (Says (P s)) b _ _ (λ _. tt) (λ _. h s) }
 
-pub numbered-times : {A : Type 0} (n : ℕ) {p : Parser A} → Numbered p → Numbered (times n p)
-unfolding times
-numbered-times zero h = numbered-pure []
-numbered-times (suc n) h = numbered-bind h (λ a. numbered-bind (numbered-times n h) (λ as′. numbered-pure (a ∷ as′)))
+  pub numbered-times : {A : Type 0} (n : ℕ) {p : Parser A} → Refuses P p → Refuses P (times n p)
+  unfolding times
+  numbered-times zero h = numbered-pure []
+  numbered-times (suc n) h = numbered-bind h (λ a. numbered-bind (numbered-times n h) (λ as′. numbered-pure (a ∷ as′)))
 
--- ---- a number
+  pub refused-so : {A : Type 0} {p : Parser A} → Refuses P p → (s : List ℕ) (at : ℕ) {n : Note} → p s at ≡ refused n → P s n
+  refused-so h s at q = subst (Says (P s)) q (h .answers s at)
 
+-- ---- the fields
+
+-- whatever the place
+pub record Shared (P : List ℕ → Note → Type 0) : Type 0 where
+  pub ends : (s : List ℕ) (p : ℕ) → P s (note 1 p)
+  pub bad : (s : List ℕ) (p : ℕ) → P s (note 2 p)
+  pub kind : (s : List ℕ) (p : ℕ) → P s (note 3 p)
+  pub unit : (s : List ℕ) (p : ℕ) → P s (note 4 p)
+  pub tenancy : (s : List ℕ) (p : ℕ) → P s (note 5 p)
+  pub falls : (s : List ℕ) (p : ℕ) → P s (note 8 p)
+  pub extra : (s : List ℕ) (p : ℕ) → P s (note 9 p)
+  pub beyond : (s : List ℕ) (p : ℕ) → P s (note 16 p)
+
+-- a number is refused with 1 or 2
 unfoldable Decodes : Decoded → Type 0
 Decodes (value v n) = Unit
-Decodes (bad e) = Own e
+Decodes (bad e) = (e ≡ 1) ⊎ (e ≡ 2)
 
 decodes-under : (b : ℕ) (d : Decoded) → Decodes d → Decodes (under b d)
 unfolding under Decodes
@@ -122,66 +140,96 @@ decodes-under b (bad e) h = h
 
 decodes-more : (k : ℕ) (s : List ℕ) → Decodes (more k s)
 unfolding more Decodes
-decodes-more zero [] = own-one
+decodes-more zero [] = inl refl
 decodes-more zero (b ∷ s) =
-    pick-elim Decodes _ _ _ (λ _. own-two)
-    (λ _. pick-elim Decodes _ _ _ (λ _. tt) (λ _. own-two))
-decodes-more (suc k) [] = own-one
+    pick-elim Decodes _ _ _ (λ _. inr refl)
+    (λ _. pick-elim Decodes _ _ _ (λ _. tt) (λ _. inr refl))
+decodes-more (suc k) [] = inl refl
 decodes-more (suc k) (b ∷ s) =
-    pick-elim Decodes _ _ _ (λ _. own-two)
+    pick-elim Decodes _ _ _ (λ _. inr refl)
     (λ _. pick-elim Decodes _ _ _ (λ _. tt) (λ _. decodes-under b (more k s) (decodes-more k s)))
 
 decodes : (s : List ℕ) → Decodes (decode s)
 unfolding decode Decodes
-decodes [] = own-one
+decodes [] = inl refl
 decodes (b ∷ s) = pick-elim Decodes _ _ _ (λ _. tt) (λ _. decodes-under b (more 3 s) (decodes-more 3 s))
 
-answers-taken : (len at : ℕ) (d : Decoded) → Decodes d → Answers (taken len at d)
-unfolding taken Answers Decodes
-answers-taken len at (value v n) h = tt
-answers-taken len at (bad e) h = h
+module _ {P : List ℕ → Note → Type 0} (c : Shared P) where
+  says-taken : (s : List ℕ) (len at : ℕ) (d : Decoded) → Decodes d → Says (P s) (taken len at d)
+  unfolding taken Decodes
+  says-taken s len at (value v n) h = tt
+  says-taken s len at (bad e) h = ⊎-elim (λ q. rw q (c .ends s _)) (λ q. rw q (c .bad s _)) h
+
+  pub refuses-number : Refuses P number
+  unfolding number
+  refuses-number = record { answers = λ s at. says-taken s (length s) at (decode (drop at s)) (decodes (drop at s)) }
+
+  pub refuses-between : (low high : ℕ) (under above : ℕ) → ((s : List ℕ) (p : ℕ) → P s (note under p))
+      → ((s : List ℕ) (p : ℕ) → P s (note above p)) → Refuses P (between low high under above)
+  unfolding between
+  refuses-between low high under above u a =
+      numbered-bind numbered-here (λ at.
+      numbered-bind refuses-number (λ v.
+      numbered-then (numbered-require _ _ (λ s. a s at)) (numbered-then (numbered-require _ _ (λ s. u s at)) (numbered-pure v))))
+
+  pub refuses-ascending : (n floor high : ℕ) → Refuses P (ascending n floor high)
+  unfolding ascending
+  refuses-ascending zero floor high = numbered-pure []
+  refuses-ascending (suc n) floor high =
+      numbered-bind (refuses-between floor high 8 16 (c .falls) (c .beyond))
+      (λ v. numbered-bind (refuses-ascending n (v + 1) high) (λ vs. numbered-pure (v ∷ vs)))
+
+  pub refuses-opening : (kinds : List ℕ) (unit t : ℕ) → Refuses P (opening kinds unit t)
+  unfolding opening kind addressed
+  refuses-opening kinds unit t =
+      numbered-bind
+      (numbered-bind numbered-here (λ at.
+      numbered-bind refuses-number (λ k. numbered-then (numbered-require _ _ (λ s. c .kind s at)) (numbered-pure k))))
+      (λ k. numbered-then
+      (numbered-then
+      (refuses-between unit unit 4 4 (c .unit) (c .unit))
+      (refuses-between _ t 5 5 (c .tenancy) (c .tenancy)))
+      (numbered-pure k))
+
+  refuses-end : Refuses P end
+  unfolding end
+  refuses-end = record { answers = λ s at. pick-elim (Says (P s)) _ _ _ (λ _. tt) (λ _. c .extra s at) }
+
+  pub refuses-whole : {A : Type 0} {p : Parser A} → Refuses P p → Refuses P (whole p)
+  unfolding whole
+  refuses-whole h = numbered-bind h (λ a. numbered-then refuses-end (numbered-pure a))
+
+-- ---- of a reader's own numbers
+
+pub shared-own : Shared (λ _. Owned)
+shared-own = record {
+  ends = λ s p. own (omega arith) (omega arith) (λ z. omega (arith, z));
+  bad = λ s p. own (omega arith) (omega arith) (λ z. omega (arith, z));
+  kind = λ s p. own-three;
+  unit = λ s p. own (omega arith) (omega arith) (λ z. omega (arith, z));
+  tenancy = λ s p. own (omega arith) (omega arith) (λ z. omega (arith, z));
+  falls = λ s p. own (omega arith) (omega arith) (λ z. omega (arith, z));
+  extra = λ s p. own (omega arith) (omega arith) (λ z. omega (arith, z));
+  beyond = λ s p. own-sixteen;
+}
 
 pub numbered-number : Numbered number
-unfolding number
-numbered-number = record { answers = λ s at. answers-taken (length s) at (decode (drop at s)) (decodes (drop at s)) }
-
--- ---- the fields
+numbered-number = refuses-number shared-own
 
 pub numbered-between : (low high : ℕ) {under above : ℕ} → Own under → Own above → Numbered (between low high under above)
-unfolding between
-numbered-between low high u a =
-    numbered-bind numbered-here (λ at.
-    numbered-bind numbered-number (λ v. numbered-then (numbered-require _ _ a) (numbered-then (numbered-require _ _ u) (numbered-pure v))))
+numbered-between low high {under} {above} u a = refuses-between shared-own low high under above (λ s p. u) (λ s p. a)
 
 pub numbered-inside : (low high e : ℕ) → Own e → Numbered (inside low high e)
 numbered-inside low high e k = numbered-between low high k k
 
 pub numbered-ascending : (n floor high : ℕ) → Numbered (ascending n floor high)
-unfolding ascending
-numbered-ascending zero floor high = numbered-pure []
-numbered-ascending (suc n) floor high =
-    numbered-bind (numbered-between floor high own-eight own-sixteen)
-    (λ v. numbered-bind (numbered-ascending n (v + 1) high) (λ vs. numbered-pure (v ∷ vs)))
+numbered-ascending n floor high = refuses-ascending shared-own n floor high
 
 pub numbered-opening : (kinds : List ℕ) (unit t : ℕ) → Numbered (opening kinds unit t)
-unfolding opening kind addressed
-numbered-opening kinds unit t =
-    numbered-bind
-    (numbered-bind numbered-here (λ at.
-    numbered-bind numbered-number (λ k. numbered-then (numbered-require _ _ own-three) (numbered-pure k))))
-    (λ k. numbered-then
-    (numbered-then
-    (numbered-between unit unit own-four own-four)
-    (numbered-between _ t own-five own-five))
-    (numbered-pure k))
-
-numbered-end : Numbered end
-unfolding end Answers
-numbered-end = record { answers = λ s at. pick-elim Answers _ _ _ (λ _. tt) (λ _. own-nine) }
+numbered-opening kinds unit t = refuses-opening shared-own kinds unit t
 
 pub numbered-whole : {A : Type 0} {p : Parser A} → Numbered p → Numbered (whole p)
-unfolding whole
-numbered-whole h = numbered-bind h (λ a. numbered-then numbered-end (numbered-pure a))
+numbered-whole h = refuses-whole shared-own h
 
 -- ---- the code's refusals
 
@@ -202,3 +250,4 @@ refusal-known NotAbove = known (omega arith) (omega arith)
 refusal-known NotTheTenant = known (omega arith) (omega arith)
 refusal-known BadAmount = known (omega arith) (omega arith)
 refusal-known BadIndex = known (omega arith) (omega arith)
+refusal-known AllOut = known (omega arith) (omega arith)

@@ -12,7 +12,7 @@ use Rattle.field.specs.declared.Written.{Written}
 use Rattle.field.specs.declared.Written.the-variants.{Length, Refused}
 use Rattle.field.specs.declared.Fault.{Fault}
 use Rattle.field.specs.declared.Refusal.the-variants.{NoRoom}
-use Rattle.basics.specs.Buffer.{paste}
+use Rattle.basics.specs.Buffer.{over, paste}
 use Rattle.basics.proofs.Buffer.{over-front}
 use Rattle.field.specs.Put.{Laid}
 use Rattle.field.specs.Refusal.{numberOf, faultAt, noteOf}
@@ -56,6 +56,14 @@ sent-bytes bs out n after w =
     (λ f. let a : got tt n ≡ refused (note 11 (length bs)) = w .answer ∙ pick-false _ _ f in
     absurd (let z : _≡_ {A = ℕ} 0 1 = cc in omega arith))
 
+-- whatever was sent is a sheet, at the buffer's start
+pub sent-sheet : (d : Draft) (out : List ℕ) (n : ℕ) (after : List ℕ) → Sent d out (Length n) after
+    → (bs : List ℕ) × (d ≡ sheet bs) × (n ≡ length bs) × (take n after ≡ bs)
+unfolding toldWritten answerTo
+sent-sheet (sheet bs) out n after w = let b = sent-bytes bs out n after w in (bs, refl, b .0, b .1)
+sent-sheet (none e) out n after w =
+    absurd (let a : got tt n ≡ refused e = w .answer in let z : _≡_ {A = ℕ} 0 1 = cc in omega arith)
+
 -- why a sheet is not sent: it is longer than the buffer
 pub sent-not : (bs out : List ℕ) (f : Fault) (after : List ℕ) → Sent (sheet bs) out (Refused f) after
     → (length out < length bs) × (noteOf f ≡ note 11 (length bs))
@@ -74,6 +82,16 @@ written-injective (Length n) (Length m) h = cc
 written-injective (Length n) (Refused q) h = cc
 written-injective (Refused r) (Length m) h = cc
 written-injective (Refused r) (Refused q) h = let n : noteOf r ≡ noteOf q = cc in ap Refused (note-injective r q n)
+
+-- with room for it, a sheet is sent
+pub sent-room : {d : Draft} {bs : List ℕ} (out : List ℕ) (r : Written) (after : List ℕ) → d ≡ sheet bs → length bs ≤ length out
+    → Sent d out r after → (r ≡ Length (length bs)) × (after ≡ over bs out)
+unfolding toldWritten answerTo leftBy
+sent-room {bs = bs} out r after e l w =
+    let fits = le-leb _ _ l in (
+      written-injective r (Length (length bs)) (w .answer ∙ ap (λ x. answerTo x out) e ∙ pick-true _ _ fits),
+      w .held ∙ ap (λ x. leftBy x out) e ∙ pick-true _ _ fits,
+    )
 
 -- a draft and a buffer leave one answer and one buffer
 pub sent-unique : (d : Draft) (out : List ℕ) (a b : Written) (x y : List ℕ) → Sent d out a x → Sent d out b y → (a ≡ b) × (x ≡ y)

@@ -9,7 +9,7 @@ use Rattle.field.specs.declared.Field.the-variants.{Got, Refused}
 use Rattle.field.specs.declared.Refusal.{Refusal}
 use Rattle.field.specs.declared.Refusal.the-variants.{SheetEnds, BadNumber, WrongKind, WrongUnit, WrongTenancy, OutOfRange, NoCopy}
 use Rattle.field.specs.declared.Refusal.the-variants.{NotRising, BytesFollow, NoSettings, NoRoom, Rented, NotAbove, NotTheTenant}
-use Rattle.field.specs.declared.Refusal.the-variants.{BadAmount, BadIndex}
+use Rattle.field.specs.declared.Refusal.the-variants.{BadAmount, BadIndex, AllOut}
 use Rattle.field.specs.declared.Fault.{Fault}
 use Rattle.field.specs.Put.{PutOne, Laid}
 use Rattle.field.specs.Refusal.{numberOf, noteOf}
@@ -34,7 +34,8 @@ named n =
     (pick (eqb n 13) NotAbove
     (pick (eqb n 14) NotTheTenant
     (pick (eqb n 15) BadAmount
-    BadIndex))))))))))))))
+    (pick (eqb n 16) BadIndex
+    AllOut)))))))))))))))
 
 named-number : (r : Refusal) → named (numberOf r) ≡ r
 unfolding named pick
@@ -54,6 +55,7 @@ named-number NotAbove = refl
 named-number NotTheTenant = refl
 named-number BadAmount = refl
 named-number BadIndex = refl
+named-number AllOut = refl
 
 -- no two refusals have one number
 pub number-injective : (a b : Refusal) → numberOf a ≡ numberOf b → a ≡ b

@@ -95,11 +95,16 @@ within-pure a = record { places = λ s at. record { place = reach-here } }
 pub within-more : {A : Type 0} {j k : ℕ} {p : Parser A} → j ≤ k → Within j p → Within k p
 within-more {p = p} l w = record { places = λ s at. places-more l (w .places s at) }
 
--- a test that refuses where reading began
-require-places : {len at k : ℕ} (b : Bool) (m : ℕ) (s : List ℕ) (n : ℕ) → Reach len at k n → Places len at k (require b (note m at) s n)
+-- a test that refuses where reading began, or before that
+require-back : {len at k p : ℕ} (b : Bool) (m : ℕ) (s : List ℕ) (n : ℕ) → p ≤ at → Reach len at k n
+    → Places len at k (require b (note m p) s n)
 unfolding require placeOf
-require-places {len} {at} {k} b m s n r =
-    pick-elim (Places len at k) b _ _ (λ _. record { place = r }) (λ _. record { place = reach-here })
+require-back {len} {at} {k} b m s n l r =
+    pick-elim (Places len at k) b _ _ (λ _. record { place = r })
+    (λ _. record { place = record { near = omega arith; inside = λ i. omega arith } })
+
+require-places : {len at k : ℕ} (b : Bool) (m : ℕ) (s : List ℕ) (n : ℕ) → Reach len at k n → Places len at k (require b (note m at) s n)
+require-places b m s n r = require-back b m s n (omega arith) r
 
 -- ---- a number
 
@@ -172,10 +177,10 @@ within-opening kinds unit due =
     within-bind {j = 5} (within-kind kinds)
     (λ k. within-then {j = 10} (within-then (within-between unit unit 4 4) (within-between _ due 5 5)) (within-pure k))
 
--- a test at the present place
-pub within-due : (b : Bool) (m : ℕ) → Within 0 (here >>= λ at. require b (note m at))
+-- a test at the present place, that refuses there or before it
+pub within-due : (b : Bool) (m : ℕ) (f : ℕ → ℕ) → ((at : ℕ) → f at ≤ at) → Within 0 (here >>= λ at. require b (note m (f at)))
 unfolding _>>=_ here
-within-due b m = record { places = λ s at. require-places b m s at reach-here }
+within-due b m f l = record { places = λ s at. require-back b m s at (l at) reach-here }
 
 within-end : Within 0 end
 unfolding end placeOf

@@ -4,7 +4,7 @@ use Rattle.field.specs.declared.Fault.{Fault}
 use Rattle.field.specs.declared.Refusal.{Refusal}
 use Rattle.field.specs.declared.Refusal.the-variants.{SheetEnds, BadNumber, WrongKind, WrongUnit, WrongTenancy, OutOfRange, NoCopy}
 use Rattle.field.specs.declared.Refusal.the-variants.{NotRising, BytesFollow, NoSettings, NoRoom, Rented, NotAbove, NotTheTenant}
-use Rattle.field.specs.declared.Refusal.the-variants.{BadAmount, BadIndex}
+use Rattle.field.specs.declared.Refusal.the-variants.{BadAmount, BadIndex, AllOut}
 use Rattle.field.specs.Sheet.{Note, note}
 
 -- the paper's number of each refusal
@@ -25,6 +25,7 @@ numberOf NotAbove = 13
 numberOf NotTheTenant = 14
 numberOf BadAmount = 15
 numberOf BadIndex = 16
+numberOf AllOut = 20
 
 abbrev pub faultAt : Refusal → ℕ → Fault
 faultAt e p = record { refusal = e; place = p }

@@ -41,10 +41,12 @@ pub enum Refusal {
     NotAbove,
     // Return while not rented, or of another tenancy.
     NotTheTenant,
-    // A cost, load, delay or plan time is out of its range.
+    // A cost, load, delay, start rule, mark or plan time is out of its range.
     BadAmount,
     // A disk or block number is out of its range.
     BadIndex,
+    // All copies of a block are out.
+    AllOut,
 }
 
 // A refusal, and the place that it tells: a byte of the sheet or its end; with NoRoom what was needed; 0 where no sheet is at fault.
@@ -92,6 +94,7 @@ pub fn number_of(e: Refusal) -> u32
         Refusal::NotTheTenant => 14,
         Refusal::BadAmount => 15,
         Refusal::BadIndex => 16,
+        Refusal::AllOut => 20,
     }
 }
 

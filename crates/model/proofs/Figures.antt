@@ -18,11 +18,11 @@ use Rattle.basics.specs.Count.{bit, gate, sum, count, any, latest}
 use Rattle.model.specs.Assignment.{reads, Valid}
 use Rattle.model.specs.Capacity.{endTime, capacity}
 use Rattle.basics.specs.Choice.{pick}
-use Rattle.model.specs.Case.{Case, left, starting, base, Schedule, endOf, response, HasTime, capacityAt}
+use Rattle.model.specs.Case.{Case, left, starting, base, inUse, Schedule, endOf, response, HasTime, capacityAt}
 use Rattle.model.specs.Shortfall.{touches, size, room, Sub, NoShorter, Greatest}
 use Rattle.model.specs.Order.{Agree, Before}
 use Rattle.model.specs.Plan.{Optimal}
-use Rattle.model.specs.Figures.{Figure, request, capacities, asked, Holds, AllHold, table}
+use Rattle.model.specs.Figures.{Disks, Figure, request, pulled, capacities, asked, Planned, Holds, AllHold, table}
 use Rattle.basics.specs.Lists.{listed}
 use Rattle.basics.proofs.Tests.{differ, and-left, and-right, and-both, below-suc}
 use Rattle.basics.proofs.Count.{any-here, any-ext, count-ext, latest-ext}
@@ -291,23 +291,32 @@ same-law (x ∷ k) [] e = absurd (differ e refl)
 same-law (x ∷ k) (y ∷ l) e =
     ap₂ (λ (i : ℕ) (j : List ℕ). i ∷ j) (eqb-true x y (and-left (eqb x y) (same k l) e)) (same-law k l (and-right (eqb x y) (same k l) e))
 
+answers : Case → ℕ → List ℕ → List ℕ → Bool
+answers m R disks short =
+    planned m R (λ b. getD disks b 0) (listed short)
+    && (eqb (length disks) (m .blocks) && eqb (length short) (size (m .blocks) (listed short)))
+
+answers-law : (m : Case) (R : ℕ) (disks short : List ℕ) → answers m R disks short ≡ true → Planned m R disks short
+unfolding answers
+answers-law m R disks short e =
+    let p : Bool = planned m R (λ b. getD disks b 0) (listed short) in
+    let l : Bool = eqb (length disks) (m .blocks) in
+    let k : Bool = eqb (length short) (size (m .blocks) (listed short)) in
+    record {
+      plan = planned-law m R (λ b. getD disks b 0) (listed short) (and-left p (l && k) e);
+      every-block = eqb-true (length disks) (m .blocks) (and-left l k (and-right p (l && k) e));
+      no-other = eqb-true (length short) (size (m .blocks) (listed short)) (and-right l k (and-right p (l && k) e));
+    }
+
 right : Figure → Bool
-right (request u age copies R disks short) =
-    planned (asked u age copies) R (λ b. getD disks b 0) (listed short)
-    && (eqb (length disks) (length copies) && eqb (length short) (size (length copies) (listed short)))
+right (request u age copies R disks short) = answers (asked u age copies) R disks short
+right (pulled u age out copies R disks short) = answers (inUse (listed out) (asked u age copies)) R disks short
 right (capacities u d times values) = same (map (λ t. capacityAt (asked u 0 []) t d) times) values
 
 right-law : (f : Figure) → right f ≡ true → Holds f
 unfolding right Holds
-right-law (request u age copies R disks short) e =
-    let p : Bool = planned (asked u age copies) R (λ b. getD disks b 0) (listed short) in
-    let l : Bool = eqb (length disks) (length copies) in
-    let k : Bool = eqb (length short) (size (length copies) (listed short)) in
-    record {
-      plan = planned-law (asked u age copies) R (λ b. getD disks b 0) (listed short) (and-left p (l && k) e);
-      every-block = eqb-true (length disks) (length copies) (and-left l k (and-right p (l && k) e));
-      no-other = eqb-true (length short) (size (length copies) (listed short)) (and-right l k (and-right p (l && k) e));
-    }
+right-law (request u age copies R disks short) e = answers-law (asked u age copies) R disks short e
+right-law (pulled u age out copies R disks short) e = answers-law (inUse (listed out) (asked u age copies)) R disks short e
 right-law (capacities u d times values) e = same-law (map (λ t. capacityAt (asked u 0 []) t d) times) values e
 
 all-right : List Figure → Bool
@@ -321,6 +330,6 @@ figures-law (f ∷ fs) e = (right-law f (and-left (right f) (all-right fs) e), f
 
 pub figures : AllHold table
 unfolding
-    table all-right right planned schedule? schedules? sets? slower? wider? room? before? all imp each every upto same put
+    table all-right right answers inUse planned schedule? schedules? sets? slower? wider? room? before? all imp each every upto same put
     listed asked left starting base capacityAt capacity pick endTime response endOf reads size room touches bit gate sum count any latest
 figures = figures-law table refl

@@ -6,6 +6,7 @@
 --     starting         when a disk starts, by the start rule
 --     endBy, capacityBy     when it ends, and how many blocks it can read by a time, by the rule
 --     base             disks by their costs, loads and delays
+--     inUse            a case of copies in use alone
 --     Priced, Held     every cost is at least 1; every block has a copy on some disk
 --     Schedule         each block on one disk that holds a copy of it
 --     response         a schedule's time
@@ -13,7 +14,7 @@
 --     capacityAt       each disk's capacity at a time
 use Prim.Native.Nat.{ℕ, _+_, _-_, _<_, max}
 use mathlib.Core.Path.{_≡_}
-use mathlib.Core.Bool.{Bool, true}
+use mathlib.Core.Bool.{Bool, true, not, _&&_}
 use lib.Dec.{ltb}
 use Rattle.basics.specs.Choice.{pick}
 use Rattle.basics.specs.Count.{latest}
@@ -50,6 +51,11 @@ capacityBy r delay load cost t = capacity (starting r delay load) cost t
 unfoldable pub base : Rule → ℕ → ℕ → (ℕ → ℕ) → (ℕ → ℕ) → (ℕ → ℕ) → (ℕ → ℕ → Bool) → Case
 base r n q cost load delay copy =
     record { disks = n; blocks = q; start = λ d. starting r (delay d) (load d); cost = cost; copy = copy }
+
+-- a case of copies in use alone, where some disks are out
+unfoldable pub inUse : (ℕ → Bool) → Case → Case
+inUse out m =
+    record { disks = m .disks; blocks = m .blocks; start = m .start; cost = m .cost; copy = λ b d. m .copy b d && not (out d) }
 
 -- every disk's cost is at least 1
 unfoldable pub Priced : Case → Type 0

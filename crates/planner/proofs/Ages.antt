@@ -22,8 +22,9 @@ use Rattle.request.specs.Draft.{requestBytes}
 use Rattle.request.specs.Request.{Said, requestSheet}
 use Rattle.request.proofs.Accepted.{said-age-none}
 use Rattle.request.proofs.RoundTrip.{same-but-kind}
+use Rattle.request.proofs.Used.{InUse}
 use Rattle.request.proofs.Writing.{Sendable}
-use Rattle.planner.specs.Asked.{startOf, tableCase, caseIn, asked}
+use Rattle.planner.specs.Asked.{startOf, isOut, tableCase, caseIn, asked}
 
 -- with no load left either rule gives the delay
 start-alone : (rule : Rule) (delay : ℕ) → starting rule delay 0 ≡ delay
@@ -45,25 +46,25 @@ module _ (rule : Rule) (r : Row) where
   start-unaged = rw (left-zero (r .load))
 
 module _ (number tenancy : ℕ) (t : Table) where
-  pub asked-said : (s : List ℕ) {r : Said} {e : ℕ} → requestSheet number tenancy (t .disks) s 0 ≡ got r e
+  pub asked-said : (s : List ℕ) {r : Said} {e : ℕ} → requestSheet number tenancy (t .disks) (isOut t) s 0 ≡ got r e
       → asked number tenancy t s ≡ got (tableCase t (r .age) (r .copies)) e
   unfolding asked caseIn
   asked-said s h = ap (caseIn t) h
 
-  pub kind-two : (s s′ : List ℕ) {r r′ : Said} {e e′ : ℕ} → requestSheet number tenancy (t .disks) s 0 ≡ got r e
-      → requestSheet number tenancy (t .disks) s′ 0 ≡ got r′ e′ → r .kind ≡ 2 → r′ .age ≡ 0 → r′ .copies ≡ r .copies
+  pub kind-two : (s s′ : List ℕ) {r r′ : Said} {e e′ : ℕ} → requestSheet number tenancy (t .disks) (isOut t) s 0 ≡ got r e
+      → requestSheet number tenancy (t .disks) (isOut t) s′ 0 ≡ got r′ e′ → r .kind ≡ 2 → r′ .age ≡ 0 → r′ .copies ≡ r .copies
       → (m : Case) × (asked number tenancy t s ≡ got m e) × (asked number tenancy t s′ ≡ got m e′)
   kind-two s s′ {r} {r′} {e} {e′} h h′ k a c =
-      let z : r .age ≡ 0 = said-age-none number tenancy (t .disks) s r e h k in (
+      let z : r .age ≡ 0 = said-age-none number tenancy (t .disks) (isOut t) s r e h k in (
         tableCase t (r .age) (r .copies),
         asked-said s h,
         asked-said s′ h′ ∙ ap₂ (λ (i : ℕ) (l : List ℕ). got (tableCase t i l) e′) (a ∙ sym z) c,
       )
 
   pub kind-two-bytes : (ms : List ℕ) → number < 2 ^ 32 → tenancy < 2 ^ 32 → 0 < tenancy → 0 < t .disks → t .disks ≤ disksMost
-      → length ms ≤ blocksMost → All (Sendable (t .disks)) ms
+      → length ms ≤ blocksMost → All (Sendable (t .disks)) ms → All (InUse (isOut t)) ms
       → (m : Case) × (asked number tenancy t (requestBytes 2 number tenancy 0 ms) ≡ got m (length (requestBytes 2 number tenancy 0 ms)))
       × (asked number tenancy t (requestBytes 4 number tenancy 0 ms) ≡ got m (length (requestBytes 4 number tenancy 0 ms)))
-  kind-two-bytes ms u v rented known within few each =
-      let both = same-but-kind number tenancy (t .disks) ms u v rented known within few each in
+  kind-two-bytes ms u v rented known within few each used =
+      let both = same-but-kind number tenancy (t .disks) (isOut t) ms u v rented known within few each used in
       kind-two _ _ (both .0) (both .1) refl refl refl

@@ -1,16 +1,19 @@
 -- What `ask` and `plan_into` answer.
---     asks-case, asks-refused       what the reader of requests accepted, with the columns; what it refused
+--     keepable                      of what it accepted the copies can be cut
+--     asks-case, asks-refused       what the reader of requests accepted, with the copies in use and the columns; what it refused
 --     lent, lent-case               the lists that were asked for can be lent, cut to Q and N; their case is the one asked for
 --     refused-of                    what was refused
 --     answered-plan, answered-not   the sheet of the plan was sent; the refusal stands
-use mathlib.Core.Path.{_≡_, refl, sym, ap, _∙_, subst}
+use mathlib.Core.Path.{_≡_, refl, sym, ap, _∙_, subst, fun-ext}
+use mathlib.Core.Bool.{Bool}
 use mathlib.Core.List.{List, [], map}
 use Prim.Native.Nat.{ℕ, _-_, _≤_}
 use native.Mathlib.Omega.{arith}
 use lib.ListN.{length, take, replicate}
 use Rattle.basics.specs.Limits.{disksMost, blocksMost}
 use Rattle.basics.specs.Padded.{padTo}
-use Rattle.basics.proofs.Padded.{pad-within, pad-front, pad-whole}
+use Rattle.basics.proofs.Padded.{pad-length, pad-within, pad-front, pad-whole}
+use Rattle.mask.specs.Has.{has}
 use Rattle.model.specs.Case.{Case}
 use Rattle.field.specs.declared.Fault.{Fault}
 use Rattle.field.specs.declared.Written.{Written}
@@ -27,38 +30,55 @@ use Rattle.request.specs.Told.{toldAnswer, copiesOf, Told as Read}
 use Rattle.request.proofs.Accepted.{Accepts, accepted, refused-sheet}
 use Rattle.planner.specs.declared.Spelling.{Spelling}
 use Rattle.planner.specs.Answered.{draftOf, Answered}
-use Rattle.planner.specs.Asked.{startOf, tableCase, caseIn, asked, Plans}
+use Rattle.model.specs.Case.{inUse}
+use Rattle.planner.specs.Asked.{startOf, isOut, tableCase, caseIn, asked, Plans}
 use Rattle.planner.specs.Lists.{Spells, sized, caseOr, Asks}
-use Rattle.planner.specs.Parts.{Columns, Lent, caseLent, Solved}
+use Rattle.planner.specs.Parts.{Kept, Columns, Lent, caseLent, Solved}
+use Rattle.planner.proofs.Cut.{kept-whole, kept-case}
 use Rattle.planner.proofs.Plannable.{length-costs, length-starts, asked-plannable}
 
 -- ---- what the reader of requests said
 
-module _ (number tenancy : ℕ) {t : Table} (w : Proper t) (s : List ℕ) {r : Request}
-    (a : Read (length s) (requestSheet number tenancy (t .disks) s 0) r) where
-  pub asks-case : {q : ℕ} {cs ss : List ℕ} → r .answer ≡ Accepted q → Columns t (r .age) cs ss
+-- `out` is the number of the disks that are out
+module _ (number tenancy : ℕ) {t : Table} (w : Proper t) (s : List ℕ) (out : ℕ) (o : (d : ℕ) → has out d ≡ isOut t d) {r : Request}
+    (a : Read (length s) (requestSheet number tenancy (t .disks) (has out) s 0) r) where
+  read-so : Read (length s) (requestSheet number tenancy (t .disks) (isOut t) s 0) r
+  read-so = subst (λ (f : ℕ → Bool). Read (length s) (requestSheet number tenancy (t .disks) f s 0) r) (fun-ext o) a
+
+  module _ {q : ℕ} (h : r .answer ≡ Accepted q) where
+    said : Accepts number tenancy (t .disks) (isOut t) s q (r .kind) (r .age) (r .copies)
+    said = accepted number tenancy (t .disks) (isOut t) s q r (w .few) read-so h
+
+    said-whole : r .copies ≡ padTo 0 blocksMost (take q (r .copies))
+    said-whole = pad-whole 0 blocksMost (r .copies) q (said .count) (said .beyond)
+
+    -- Q is within what `keep` takes
+    pub keepable : (q ≤ blocksMost) × (length (r .copies) ≡ blocksMost)
+    keepable = (said .small, ap length said-whole ∙ pad-length 0 blocksMost (take q (r .copies)) (omega (arith, said .count, said .small)))
+
+  pub asks-case : {q : ℕ} {kept cs ss : List ℕ} → r .answer ≡ Accepted q → Kept q out (r .copies) kept → Columns t (r .age) cs ss
       → Asks (asked number tenancy t s) (length s) (record {
         answer = Accepted q;
         disks = t .disks;
-        copies = r .copies;
+        copies = kept;
         costs = cs;
         starts = ss;
       })
-  unfolding asked caseIn toldAnswer sized caseOr tableCase
-  asks-case {q} {cs} {ss} h c =
-      let k : Accepts number tenancy (t .disks) s q (r .kind) (r .age) (r .copies) =
-      accepted number tenancy (t .disks) s q r (w .few) a h in
-      let x : Spelling = record { answer = Accepted q; disks = t .disks; copies = r .copies; costs = cs; starts = ss } in
+  unfolding asked caseIn toldAnswer sized caseOr tableCase inUse
+  asks-case {q} {kept} {cs} {ss} h u c =
+      let k = said h in
+      let whole = said-whole h in
+      let x : Spelling = record { answer = Accepted q; disks = t .disks; copies = kept; costs = cs; starts = ss } in
       subst (λ (o : Out Case). Asks o (length s) x) (sym (ap (caseIn t) (k .sheet))) (record {
         answer = ap (λ (i : ℕ). got i (length s)) (sym (k .count));
         lists = record {
-          copies = take q (r .copies);
+          copies = take q kept;
           costs = costs t;
           starts = map (startOf (t .rule) (r .age)) (diskRows t);
           starts-long = length-starts w (r .age) ∙ sym (length-costs w);
-          case = refl;
+          case = kept-case (k .count) whole (k .small) u (costs t) (map (startOf (t .rule) (r .age)) (diskRows t)) o;
           disks = sym (length-costs w);
-          copies-held = pad-whole 0 blocksMost (r .copies) q (k .count) (k .beyond);
+          copies-held = kept-whole (k .count) whole (k .small) u;
           costs-held = c .costs-held;
           starts-held = c .starts-held;
         };
@@ -74,7 +94,7 @@ module _ (number tenancy : ℕ) {t : Table} (w : Proper t) (s : List ℕ) {r : R
       })
   unfolding asked caseIn toldAnswer sized caseOr padTo copiesOf
   asks-refused {e} h =
-      let k : requestSheet number tenancy (t .disks) s 0 ≡ refused (noteOf e) = refused-sheet (length s) _ r e a h in
+      let k : requestSheet number tenancy (t .disks) (isOut t) s 0 ≡ refused (noteOf e) = refused-sheet (length s) _ r e read-so h in
       let z : List ℕ = replicate disksMost 0 in
       let x : Spelling = record { answer = Refused e; disks = 0; copies = r .copies; costs = z; starts = z } in
       subst (λ (o : Out Case). Asks o (length s) x) (sym (ap (caseIn t) k)) (record {
@@ -86,7 +106,7 @@ module _ (number tenancy : ℕ) {t : Table} (w : Proper t) (s : List ℕ) {r : R
           starts-long = refl;
           case = refl;
           disks = refl;
-          copies-held = a .held ∙ ap copiesOf k;
+          copies-held = read-so .held ∙ ap copiesOf k;
           costs-held = refl;
           starts-held = refl;
         };

@@ -19,22 +19,22 @@ use Rattle.request.proofs.Known.{numbered-request}
 use Rattle.plan.specs.Plan.{Plan}
 use Rattle.plan.proofs.Placed.{roomless}
 use Rattle.planner.specs.Answered.{draftOf, Answered}
-use Rattle.planner.specs.Asked.{caseIn, asked, Plans}
+use Rattle.planner.specs.Asked.{isOut, caseIn, asked, Plans}
 use Rattle.planner.proofs.Plans.{plans-unique}
 
 -- no request is refused with 11
 case-answers : (t : Table) (o : Out Said) → Answers o → Answers (caseIn t o)
-unfolding caseIn Answers
+unfolding caseIn
 case-answers t (got r e) h = tt
 case-answers t (refused n) h = h
 
 module _ (number tenancy : ℕ) (t : Table) (s : List ℕ) where
   asked-answers : Answers (asked number tenancy t s)
   unfolding asked
-  asked-answers = case-answers t _ (numbered-request number tenancy (t .disks) .answers s 0)
+  asked-answers = case-answers t _ (numbered-request number tenancy (t .disks) (isOut t) .answers s 0)
 
   roomless-of : (o : Out Case) (x : Out Plan) → Answers o → Plans o x → Roomless (draftOf number tenancy x)
-  unfolding Plans Answers draftOf Roomless
+  unfolding Plans draftOf Roomless
   roomless-of (got m e) x h w =
       subst (λ (y : Out Plan). Roomless (draftOf number tenancy y)) (sym (w .2)) (roomless number tenancy (w .0))
   roomless-of (refused n) x h w = subst (λ (y : Out Plan). Roomless (draftOf number tenancy y)) (sym w) (h .1)

@@ -1,4 +1,5 @@
 pub mod Rows
+pub mod Cut
 pub mod Plannable
 pub mod Plans
 pub mod Found
@@ -11,3 +12,4 @@ pub mod Unique
 pub mod Enough
 pub mod Ages
 pub mod Rules
+pub mod Out

@@ -2,13 +2,16 @@
 --     asked-got          an accepted request, by what it says
 --     asked-plannable    its case
 --     plan-for           a plan of such a case is within the ranges of a plan sheet
-use mathlib.Core.Path.{_≡_, refl, sym, _∙_, subst}
+use mathlib.Core.Path.{_≡_, refl, sym, ap, _∙_, subst}
+use mathlib.Core.Bool.{true, not}
 use mathlib.Core.List.{List, [], _∷_, map}
 use Prim.Native.Nat.{ℕ, zero, suc, _-_, _≤_, _<_}
 use native.Mathlib.Omega.{arith}
 use lib.ListN.{length, getD, length-map}
 use Rattle.basics.specs.Limits.{disksMost, blocksMost, costMost, startMost, timeMost}
-use Rattle.mask.proofs.Has.{has-place, mask-some}
+use Rattle.basics.proofs.Tests.{and-left, and-both}
+use Rattle.mask.specs.Has.{has}
+use Rattle.mask.proofs.Has.{has-place}
 use Rattle.model.specs.Assignment.{Valid}
 use Rattle.model.specs.Case.{Case, Priced, Held, Schedule, HasTime}
 use Rattle.basics.specs.Count.{count, sum, bit}
@@ -26,9 +29,11 @@ use Rattle.settings.specs.declared.Table.{Table}
 use Rattle.settings.specs.Table.{diskRows, costs, Proper}
 use Rattle.request.specs.Request.{Said, requestSheet}
 use Rattle.request.proofs.Accepted.{sheet-blocks}
+use Rattle.request.proofs.Used.{InUse}
 use Rattle.request.proofs.Writing.{Sendable}
 use Rattle.plan.specs.Plan.{Plan, ifAny}
-use Rattle.planner.specs.Asked.{startOf, tableCase, caseIn, asked, Plannable, PlanFor}
+use Rattle.model.specs.Case.{inUse}
+use Rattle.planner.specs.Asked.{startOf, isOut, tableCase, caseIn, asked, Plannable, PlanFor}
 use Rattle.planner.proofs.Rows.{count-disks, row-in, start-small, start-zero, column-at}
 
 -- ---- the case
@@ -40,7 +45,7 @@ case-got t (got r e) h = (r, cc, cc)
 case-got t (refused n) h = absurd (let z : _≡_ {A = ℕ} 0 1 = cc in omega arith)
 
 pub asked-got : (number tenancy : ℕ) (t : Table) (s : List ℕ) {m : Case} {e : ℕ} → asked number tenancy t s ≡ got m e
-    → (r : Said) × (requestSheet number tenancy (t .disks) s 0 ≡ got r e) × (tableCase t (r .age) (r .copies) ≡ m)
+    → (r : Said) × (requestSheet number tenancy (t .disks) (isOut t) s 0 ≡ got r e) × (tableCase t (r .age) (r .copies) ≡ m)
 unfolding asked
 asked-got number tenancy t s h = case-got t _ h
 
@@ -53,9 +58,9 @@ module _ {t : Table} (w : Proper t) where
   length-starts age = length-map (diskRows t) (startOf (t .rule) age) ∙ count-disks w
 
   copies-plannable : (age : ℕ) (copies : List ℕ) → 0 < t .disks → length copies ≤ blocksMost → All (Sendable (t .disks)) copies
-      → Plannable (tableCase t age copies)
-  unfolding tableCase costs Held
-  copies-plannable age copies some few each = record {
+      → All (InUse (isOut t)) copies → Plannable (tableCase t age copies)
+  unfolding tableCase inUse costs Held
+  copies-plannable age copies some few each used = record {
     disks-some = omega (arith, length-costs);
     disks-few = omega (arith, length-costs, w .few);
     blocks-few = few;
@@ -63,19 +68,21 @@ module _ {t : Table} (w : Proper t) where
     cost-most = λ d l. omega (arith, column-at w (λ r. r .cost) refl d, row-in w d (omega (arith, length-costs)) .cost-high);
     start-most = λ d l. omega (arith, column-at w (startOf (t .rule) age) (start-zero (t .rule) age) d, start-small w (t .rule) age d);
     held = λ b l.
-        let s : Sendable (t .disks) (getD copies b 0) = all-at (Sendable (t .disks)) copies each b 0 l in
-        let x = mask-some (t .disks) (getD copies b 0) (s .under) (omega (arith, s .some)) in
-        (x .0, omega (arith, x .1, length-costs), x .2);
-    low = λ b d l h.
-        let s : Sendable (t .disks) (getD copies b 0) = all-at (Sendable (t .disks)) copies each b 0 l in
-        omega (arith, has-place (t .disks) (getD copies b 0) d (s .under) h, length-costs);
+        let u : InUse (isOut t) (getD copies b 0) = all-at (InUse (isOut t)) copies used b 0 l in
+        (u .disk, on-disk b (u .disk) l (u .holds), and-both _ _ (u .holds) (ap not (u .stays)));
+    low = λ b d l h. on-disk b d l (and-left _ _ h);
   }
+    where
+      on-disk : (b d : ℕ) → b < length copies → has (getD copies b 0) d ≡ true → d < length (costs t)
+      on-disk b d l h =
+          let s : Sendable (t .disks) (getD copies b 0) = all-at (Sendable (t .disks)) copies each b 0 l in
+          omega (arith, has-place (t .disks) (getD copies b 0) d (s .under) h, length-costs)
 
   pub asked-plannable : (number tenancy : ℕ) (s : List ℕ) {m : Case} {e : ℕ} → asked number tenancy t s ≡ got m e → Plannable m
   asked-plannable number tenancy s h =
       let g = asked-got number tenancy t s h in
-      let b = sheet-blocks number tenancy (t .disks) s (g .0) _ (w .few) (g .1) in
-      subst Plannable (g .2) (copies-plannable (g .0 .age) (g .0 .copies) (b .0) (b .1) (b .2))
+      let b = sheet-blocks number tenancy (t .disks) (isOut t) s (g .0) _ (w .few) (g .1) in
+      subst Plannable (g .2) (copies-plannable (g .0 .age) (g .0 .copies) (b .0) (b .1) (b .2) (b .3))
 
 -- ---- the ranges of its plan
 

@@ -3,6 +3,7 @@
 --     answered-read        the sheet that was sent, by the definition of a plan sheet; its time, by demand 3
 --     answered-received    and by the plan reader
 use mathlib.Core.Path.{_≡_, refl, sym, ap, _∙_, subst}
+use mathlib.Core.Bool.{Bool}
 use mathlib.Core.List.{List, [], _∷_}
 use Prim.Native.Nat.{ℕ, _^_, _≤_, _<_}
 use native.Mathlib.Omega.{arith}
@@ -28,7 +29,7 @@ use Rattle.plan.specs.Told.{toldPlan}
 use Rattle.basics.proofs.Buffer.{over-front}
 use Rattle.plan.proofs.RoundTrip.{read-written, same-plan}
 use Rattle.planner.specs.Answered.{draftOf, Answered, handed}
-use Rattle.planner.specs.Asked.{asked, PlanFor, Plans}
+use Rattle.planner.specs.Asked.{isOut, asked, PlanFor, Plans}
 use Rattle.planner.proofs.Demand.{plan-for-greatest}
 use Rattle.planner.proofs.Plannable.{asked-got, asked-plannable}
 
@@ -57,8 +58,10 @@ module _ {o : Out Plan} {bytes : ℕ} {disks short disks′ short′ : List ℕ}
 
 -- ---- the sheet that was sent
 
-request-tenancy : (number tenancy n : ℕ) (s : List ℕ) (r : Said) (e : ℕ) → requestSheet number tenancy n s 0 ≡ got r e → 0 < tenancy
-request-tenancy number tenancy n s r e h = opening-tenancy number tenancy kinds s 0 (sheet-got number tenancy n s r e h .headed .first)
+request-tenancy : (number tenancy n : ℕ) (out : ℕ → Bool) (s : List ℕ) (r : Said) (e : ℕ) → requestSheet number tenancy n out s 0 ≡ got r e
+    → 0 < tenancy
+request-tenancy number tenancy n out s r e h =
+    opening-tenancy number tenancy kinds s 0 (sheet-got number tenancy n out s r e h .headed .first)
 
 module _ (number tenancy : ℕ) {t : Table} (s : List ℕ) (w : Proper t) (i : number < 2 ^ 32) (j : tenancy < 2 ^ 32)
     {m : Case} {e : ℕ} (g : asked number tenancy t s ≡ got m e) {out after : List ℕ} {n : ℕ}
@@ -68,7 +71,7 @@ module _ (number tenancy : ℕ) {t : Table} (s : List ℕ) (w : Proper t) (i : n
   answered-read =
       let c = asked-got number tenancy t s g in
       let x : (p : Plan) × PlanFor m p × (a .plan ≡ got p e) = subst (λ (o : Out Case). Plans o (a .plan)) g (a .plans) in
-      let l : 0 < tenancy = request-tenancy number tenancy (t .disks) s (c .0) e (c .1) in
+      let l : 0 < tenancy = request-tenancy number tenancy (t .disks) (isOut t) s (c .0) e (c .1) in
       (x .0, x .1, read-written number tenancy (x .0) i l j (x .1 .range) out after n (rw (x .2) at (a .sent)))
 
   -- demand 3 of the answer: the time on the sheet is the least time, and the greatest earliest time

@@ -20,7 +20,7 @@ use Rattle.model.proofs.Capacity.{start-most}
 use Rattle.model.proofs.Left.{left-most}
 use Rattle.settings.specs.declared.Row.{Row}
 use Rattle.settings.specs.declared.Table.{Table}
-use Rattle.settings.specs.Row.{disk}
+use Rattle.settings.specs.Row.{noDisk}
 use Rattle.settings.specs.Table.{diskRows, costs, Proper}
 use Rattle.settings.proofs.Accepted.{proper-length, proper-good, proper-zero}
 use Rattle.settings.proofs.Rows.{InRange, in-range}
@@ -30,7 +30,7 @@ use Rattle.planner.specs.Parts.{Columns}
 -- ---- the rows of a table
 
 abbrev rowAt : Table → ℕ → Row
-rowAt t i = getD (t .rows) i (disk 0 0 0)
+rowAt t i = getD (t .rows) i noDisk
 
 module _ {t : Table} (w : Proper t) where
   pub count-disks : length (diskRows t) ≡ t .disks
@@ -51,15 +51,15 @@ module _ {t : Table} (w : Proper t) where
   unfolding startOf
   start-small rule age i = le-trans (start-most rule _ _) (wait-small age i)
 
-  module _ (f : Row → ℕ) (z : f (disk 0 0 0) ≡ 0) where
+  module _ (f : Row → ℕ) (z : f noDisk ≡ 0) where
     -- a column, by its row
     pub column-at : (i : ℕ) → getD (map f (diskRows t)) i 0 ≡ f (rowAt t i)
     unfolding diskRows
     column-at i =
-        ap (getD (map f (diskRows t)) i) (sym z) ∙ List·getD-map f (diskRows t) i (disk 0 0 0)
+        ap (getD (map f (diskRows t)) i) (sym z) ∙ List·getD-map f (diskRows t) i noDisk
         ∙ ap f (⊎-elim
-        (λ l. getD-take (t .disks) (t .rows) i (disk 0 0 0) l)
-        (λ l. List·getD-eq-default (diskRows t) (disk 0 0 0) {n = i} (omega (arith, count-disks)) ∙ sym (proper-zero w i l))
+        (λ l. getD-take (t .disks) (t .rows) i noDisk l)
+        (λ l. List·getD-eq-default (diskRows t) noDisk {n = i} (omega (arith, count-disks)) ∙ sym (proper-zero w i l))
         (lt-or-le i (t .disks)))
 
     column-whole : (xs : List ℕ) → length xs ≡ disksMost → ((i : ℕ) → i < disksMost → getD xs i 0 ≡ f (rowAt t i))
@@ -75,8 +75,8 @@ pub record UpTo (rule : Rule) (age : ℕ) (rows : List Row) (costs starts : List
   pub below : i ≤ disksMost
   pub costs-long : length costs ≡ disksMost
   pub starts-long : length starts ≡ disksMost
-  pub cost : (k : ℕ) → k < i → getD costs k 0 ≡ (getD rows k (disk 0 0 0)) .cost
-  pub start : (k : ℕ) → k < i → getD starts k 0 ≡ startOf rule age (getD rows k (disk 0 0 0))
+  pub cost : (k : ℕ) → k < i → getD costs k 0 ≡ (getD rows k noDisk) .cost
+  pub start : (k : ℕ) → k < i → getD starts k 0 ≡ startOf rule age (getD rows k noDisk)
 
 pub upto-start : (rule : Rule) (age : ℕ) (rows : List Row) (costs starts : List ℕ) → length costs ≡ disksMost → length starts ≡ disksMost
     → UpTo rule age rows costs starts 0
@@ -97,20 +97,20 @@ one-more f xs i v l e h =
     (getD-set-same xs i v 0 l ∙ e)
 
 pub upto-step : {rule : Rule} {age : ℕ} {rows : List Row} {costs starts : List ℕ} {i : ℕ} (r : Row) (s : ℕ) → i < disksMost
-    → r ≡ getD rows i (disk 0 0 0) → s ≡ startOf rule age r → UpTo rule age rows costs starts i
+    → r ≡ getD rows i noDisk → s ≡ startOf rule age r → UpTo rule age rows costs starts i
     → UpTo rule age rows (set costs i (r .cost)) (set starts i s) (i + 1)
 upto-step {rule} {age} {rows} {costs} {starts} {i} r s l e h w = record {
   below = omega arith;
   costs-long = length-set costs i (r .cost) ∙ w .costs-long;
   starts-long = length-set starts i s ∙ w .starts-long;
-  cost = one-more (λ k. (getD rows k (disk 0 0 0)) .cost) costs i (r .cost) (omega (arith, w .costs-long)) (ap (λ x. x .cost) e) (w .cost);
+  cost = one-more (λ k. (getD rows k noDisk) .cost) costs i (r .cost) (omega (arith, w .costs-long)) (ap (λ x. x .cost) e) (w .cost);
   start =
-      one-more (λ k. startOf rule age (getD rows k (disk 0 0 0))) starts i s (omega (arith, w .starts-long)) (h ∙ ap (startOf rule age) e)
+      one-more (λ k. startOf rule age (getD rows k noDisk)) starts i s (omega (arith, w .starts-long)) (h ∙ ap (startOf rule age) e)
       (w .start);
 }
 
 -- a row that is 0 starts at 0 by either rule and at every age
-pub start-zero : (rule : Rule) (age : ℕ) → startOf rule age (disk 0 0 0) ≡ 0
+pub start-zero : (rule : Rule) (age : ℕ) → startOf rule age noDisk ≡ 0
 unfolding startOf
 start-zero rule age = omega (arith, start-most rule 0 (left age 0), left-most age 0)
 

@@ -1,12 +1,15 @@
 -- What only the private functions promise.
+--     Kept               copies in use
 --     Columns            the cost and the start of each disk, and 0 behind them
 --     Lent, caseLent     the lists of what was asked, cut to Q and N; the case that they spell
 --     Solvable, Solved   lists that spell a case within the limits; the sheet of its plan was sent
 --     cutTo              the values that the engine found, cut to Q blocks
-use Prim.Native.Nat.{ℕ, _≤_}
+use Prim.Native.Nat.{ℕ, _≤_, _<_}
+use mathlib.Core.Bool.{not, _&&_}
 use mathlib.Core.Path.{_≡_}
 use mathlib.Core.List.{List, map}
-use lib.ListN.{length, take}
+use lib.ListN.{length, take, getD}
+use Rattle.mask.specs.Has.{has}
 use Rattle.basics.specs.Padded.{padTo}
 use Rattle.basics.specs.Limits.{disksMost}
 use Rattle.model.specs.Case.{Case}
@@ -24,6 +27,12 @@ use Rattle.planner.specs.Asked.{startOf, Plannable, PlanFor}
 pub record Columns (t : Table) (age : ℕ) (costs′ starts′ : List ℕ) : Type 0 where
   pub costs-held : costs′ ≡ padTo 0 disksMost (costs t)
   pub starts-held : starts′ ≡ padTo 0 disksMost (map (startOf (t .rule) age) (diskRows t))
+
+-- copies without the disks of another number, up to Q
+pub record Kept (q out : ℕ) (copies after : List ℕ) : Type 0 where
+  pub long : length after ≡ length copies
+  pub used : (b d : ℕ) → b < q → has (getD after b 0) d ≡ (has (getD copies b 0) d && not (has out d))
+  pub beyond : (b : ℕ) → q ≤ b → getD after b 0 ≡ getD copies b 0
 
 pub record Solvable (copies costs starts : List ℕ) : Type 0 where
   pub starts-long : length starts ≡ length costs

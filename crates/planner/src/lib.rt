@@ -6,19 +6,20 @@ use field::Written;
 use model::Rule;
 use request::Answer;
 use settings::Table;
-ghost use Prim.Native.Nat.{_+_, _≤_, _<_};
+ghost use Prim.Native.Nat.{ℕ, _+_, _≤_, _<_};
 ghost use mathlib.Core.Path.{_≡_};
 ghost use lib.ListN.{length};
-ghost use Rattle.basics.specs.Limits.{disksMost};
+ghost use Rattle.basics.specs.Limits.{disksMost, blocksMost};
+ghost use Rattle.mask.specs.Has.{has};
 ghost use Rattle.engine.specs.Spelled.{spelled};
 ghost use Rattle.model.specs.Case.{left as leftOf, starting};
 ghost use Rattle.field.specs.Send.{Sent};
 ghost use Rattle.plan.specs.Draft.{planDraft};
 ghost use Rattle.settings.specs.Table.{Proper};
-ghost use Rattle.planner.specs.Asked.{asked};
+ghost use Rattle.planner.specs.Asked.{isOut, asked};
 ghost use Rattle.planner.specs.Lists.{Asks};
 ghost use Rattle.planner.specs.Answered.{Answered};
-ghost use Rattle.planner.specs.Parts.{Columns, Lent, caseLent, Solvable, Solved, cutTo};
+ghost use Rattle.planner.specs.Parts.{Kept, Columns, Lent, caseLent, Solvable, Solved, cutTo};
 
 // What was asked: Q or the refusal; N, the copies of each block, the cost and the start of each disk. All else is 0, and on refusal all is.
 pub struct Spelling {
@@ -34,13 +35,15 @@ pub fn ask(number: u32, tenancy: u32, table: Table, sheet: &[u8]) -> Spelling
     requires { ⌜ Proper table ⌝ }
     ensures { λ r. ⌜ Asks (asked number tenancy table (now (sheet .entry))) (length (now (sheet .entry))) r ⌝ }
 {
-    let said = request::read(sheet, number, tenancy, table.disks);
+    let out = out_of(table);
+    let said = request::read(sheet, number, tenancy, table.disks, out);
     let answer = said.answer;
-    let copies = said.copies;
+    let mut copies = said.copies;
     let mut costs = [0u32; DISKS];
     let mut starts = [0u32; DISKS];
     match answer {
         Answer::Accepted(q) => {
+            keep(&mut copies, q, out);
             columns(table, said.age, &mut costs, &mut starts);
             Spelling {
                 answer: Answer::Accepted(q),
@@ -127,6 +130,36 @@ fn send(
 {
     let m = found.size;
     plan::write(number, tenancy, found.time, &disks[..q], &short[..m], out)
+}
+
+// The disks that are out, as one number.
+fn out_of(table: Table) -> u64
+    requires { ⌜ Proper table ⌝ }
+    ensures { λ r. ⌜ ((d : ℕ) → has r d ≡ isOut table d) ⌝ }
+{
+    let rows = table.rows;
+    let mut out: u64 = 0;
+    let mut i = 0;
+    while i < DISKS {
+        let row = rows[i];
+        if row.mark == 1 {
+            out = mask::put(out, i);
+        }
+        i += 1;
+    }
+    out
+}
+
+// The copies of Q blocks without the disks that are out.
+fn keep(copies: &mut Masks, q: usize, out: u64)
+    requires { ⌜ (q ≤ blocksMost) × (length (now copies) ≡ blocksMost) ⌝ }
+    ensures { λ _. ⌜ Kept q out (now (copies .entry)) (now (copies .exit)) ⌝ }
+{
+    let mut i = 0;
+    while i < q {
+        copies[i] = mask::without(copies[i], out);
+        i += 1;
+    }
 }
 
 // What is left of a load at an age.

@@ -1,4 +1,5 @@
 pub mod Disks
+pub mod Used
 pub mod Aged
 pub mod Reading
 pub mod Writing

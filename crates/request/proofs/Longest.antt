@@ -2,6 +2,7 @@
 --     longest-written, longest-read     what is written, and what is accepted
 --     longest-reached                   kind 4 with the greatest age, and 1,024 blocks with eight copies each
 use mathlib.Core.Path.{_≡_, refl, ap, _∙_}
+use mathlib.Core.Bool.{Bool}
 use mathlib.Core.Logic.{inr}
 use mathlib.Core.List.{List}
 use Prim.Native.Nat.{ℕ, zero, suc, _+_, _*_, _≤_}
@@ -51,9 +52,9 @@ module _ (k unit t a n : ℕ) (ms bs : List ℕ) where
         d .head .count,
       )
 
-pub longest-read : (unit t n : ℕ) (s : List ℕ) (r : Said) (e : ℕ) → Bytes s → n ≤ disksMost → requestSheet unit t n s 0 ≡ got r e
-    → length s ≤ requestMost
-longest-read unit t n s r e b l h = longest-written (r .kind) unit t (r .age) n (r .copies) s (write-accepted unit t n s r e b l h)
+pub longest-read : (unit t n : ℕ) (out : ℕ → Bool) (s : List ℕ) (r : Said) (e : ℕ) → Bytes s → n ≤ disksMost
+    → requestSheet unit t n out s 0 ≡ got r e → length s ≤ requestMost
+longest-read unit t n out s r e b l h = longest-written (r .kind) unit t (r .age) n (r .copies) s (write-accepted unit t n out s r e b l h)
 
 -- ---- one that is as long
 

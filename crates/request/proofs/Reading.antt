@@ -3,6 +3,7 @@
 --     gather-done, gather-step, gather-stop                the disks of a block, one by one
 --     Gathering                                            as a loop: the disks read so far are in m, the rest is still to be read
 --     block-of, block-stops                                a block, by its copy count
+--     behind, behind-some, used-not, used-so               its disks stand behind some byte; whether some of them are in use
 --     head-got, head-refused                               what an answer told of the heading
 --     opening-stops, opening-unset, opening-known          kind, unit, tenancy and settings, by where they stop
 --     age-four, age-none                                   the age, by the kind
@@ -12,7 +13,7 @@
 --     sheet-next, sheet-stops, answered-of, answered-sheet the whole sheet
 --     Listed, Headed, Whole, block-got, heading-got, sheet-got     what an accepted block, heading or sheet says of each part
 use mathlib.Core.Path.{_≡_, refl, sym, ap, _∙_, subst, subst⁻¹}
-use mathlib.Core.Bool.{true, _||_}
+use mathlib.Core.Bool.{Bool, true, false, not, _&&_, _||_}
 use mathlib.Core.List.{List, _∷_}
 use Prim.Native.Nat.{ℕ, suc, _+_, _-_, _^_, _≤_, _<_}
 use native.Mathlib.Omega.{arith}
@@ -20,13 +21,14 @@ use borrow.Author.Tests.{eq-eqb, ne-eqb, lt-ltb, le-ltb, ltb-true}
 use lib.Dec.{eqb, ltb, lit<}
 use lib.ListN.{length, replicate, take, drop, set, length-set, length-replicate, getD}
 use lib.Seq.{length-take-le, take-suc-set, drop-set-lt, drop-drop}
+use Rattle.basics.specs.Choice.{pick}
 use Rattle.basics.proofs.Choice.{pick-true, pick-false, pick-elim}
 use Rattle.field.specs.declared.Fault.{Fault}
 use Rattle.field.specs.Refusal.{noteOf}
 use Rattle.field.specs.Sheet.{Note, Out, got, refused, note, Parser, andThen, _>>=_, _>>_, pure, here, require, times}
 use Rattle.field.specs.Field.{number, between, opening as opened, inside, rising, ascending, end, whole}
 use Rattle.field.proofs.Sheet.{next, then, stops, halts, pass, fail, at-here, Step, bind-got, passed, pure-got}
-use Rattle.field.proofs.Values.{between-within, between-range}
+use Rattle.field.proofs.Values.{between-within, between-range, ascending-rises}
 use Rattle.field.proofs.Lists.{prefix, times-start, times-step, times-stop, times-done}
 use Rattle.field.proofs.Whole.{whole-next, whole-stops, whole-refused, whole-got, end-place}
 use Rattle.request.specs.declared.Answer.the-variants.{Accepted}
@@ -36,16 +38,17 @@ use Rattle.request.specs.declared.Head.{Head}
 use Rattle.request.specs.declared.HeadRead.{HeadRead}
 use Rattle.request.specs.declared.HeadRead.the-variants.{Got as GotHead, Refused as NoHead}
 use Rattle.request.specs.declared.Request.{Request}
-use Rattle.request.specs.Disks.{maskOf}
-use Rattle.request.specs.Request.{kinds, Said, lastDisk, block, opening, age, heading, body, requestSheet}
-use Rattle.request.specs.Parts.{toldHead, toldCopies, masked, Beyond}
+use Rattle.request.specs.Disks.{maskOf, disksOf}
+use Rattle.request.specs.Request.{kinds, Said, lastDisk, used, block, opening, age, heading, body, requestSheet}
+use Rattle.request.specs.Parts.{toldHead, toldCopies, masked, Behind, ifUsed, Beyond}
 use Rattle.request.specs.Told.{toldAnswer, counted, kindIn, ageIn, copiesOf, Told}
 use Rattle.basics.specs.Limits.{disksMost, blocksMost, copiesMost}
 use Rattle.basics.proofs.Padded.{pad-whole}
 use Rattle.mask.specs.Has.{has}
 use Rattle.field.proofs.Readers.{between-got, between-above, between-under, between-stops}
-use Rattle.field.proofs.OneByte.{number-ends, number-byte, number-above}
-use Rattle.request.proofs.Disks.{put-sum, plus-lt, lt-up}
+use Rattle.field.proofs.OneByte.{number-ends, number-byte, number-above, ascending-last}
+use Rattle.request.proofs.Used.{nothing-left, some-left}
+use Rattle.request.proofs.Disks.{put-sum, plus-lt, lt-up, disks-mask}
 
 -- ---- the last disk
 
@@ -69,18 +72,9 @@ unfolding masked andThen maskOf
 masked-more m v (got vs n) = ap (λ (k : ℕ). got k n) (omega arith)
 masked-more m v (refused e) = refl
 
-masked-none : (o : Out (List ℕ)) → andThen o (λ ds n. got (maskOf ds) n) ≡ masked 0 o
-unfolding masked andThen
-masked-none (got ds n) = ap (λ (k : ℕ). got k n) (omega arith)
-masked-none (refused e) = refl
-
 listed : (m v : ℕ) (q : Parser (List ℕ)) (s : List ℕ) (at : ℕ) → masked m ((q >>= λ vs. pure (v ∷ vs)) s at) ≡ masked (m + 2 ^ v) (q s at)
 unfolding _>>=_ pure
 listed m v q s at = masked-more m v (q s at)
-
-summed : (q : Parser (List ℕ)) (s : List ℕ) (at : ℕ) → (q >>= λ ds. pure (maskOf ds)) s at ≡ masked 0 (q s at)
-unfolding _>>=_ pure
-summed q s at = masked-none (q s at)
 
 module _ (high : ℕ) (s : List ℕ) (left floor at m : ℕ) where
   pub gather-done : left ≡ 0 → masked m (ascending left floor high s at) ≡ got m at
@@ -163,17 +157,70 @@ pub copies-refused : {f : Copies} {o : Out ℕ} {r : Fault} → toldCopies f ≡
 unfolding toldCopies
 copies-refused h q = sym h ∙ ap toldCopies q
 
-module _ (high : ℕ) (s : List ℕ) (at : ℕ) where
-  pub block-of : {k e : ℕ} → between 1 copiesMost 7 6 s at ≡ got k e → block high s at ≡ masked 0 (ascending k 0 high s e)
-  unfolding block
-  block-of {k} {e} h = next (between 1 copiesMost 7 6) _ s at h ∙ summed (ascending k 0 high) s e
+-- the test behind the disks
+tested : (b : Bool) (n : Note) (m : ℕ) (s : List ℕ) (at : ℕ) → (require b n >> pure m) s at ≡ pick b (got m at) (refused n)
+unfolding _>>_ require pure andThen pick
+tested true n m s at = refl
+tested false n m s at = refl
 
-  pub block-stops : {n : Note} → between 1 copiesMost 7 6 s at ≡ refused n → block high s at ≡ refused n
+-- that some of the disks are in use, and their number
+abbrev chosen : (ℕ → Bool) → List ℕ → Parser ℕ
+chosen out ds = here >>= λ next. require (used out ds) (note 20 (next - 1)) >> pure (maskOf ds)
+
+chosen-masked : (out : ℕ → Bool) (s : List ℕ) (o : Out (List ℕ)) → ((ds : List ℕ) (e : ℕ) → o ≡ got ds e → disksOf (maskOf ds) ≡ ds)
+    → andThen o (λ ds n. chosen out ds s n) ≡ ifUsed out (masked 0 o)
+unfolding andThen masked ifUsed
+chosen-masked out s (got ds n) h =
+    let last : Out ℕ = refused (note 20 (n - 1)) in
+    at-here _ s n ∙ tested (used out ds) (note 20 (n - 1)) (maskOf ds) s n
+    ∙ ap (λ (x : List ℕ). pick (used out x) (got (maskOf ds) n) last) (sym (h ds n refl))
+    ∙ ap (λ (k : ℕ). pick (used out (disksOf k)) (got k n) last) {x = maskOf ds} {y = 0 + maskOf ds} (omega arith)
+chosen-masked out s (refused e) h = refl
+
+module _ (high : ℕ) (out : ℕ → Bool) (s : List ℕ) (at : ℕ) where
+  pub block-of : {k e : ℕ} → high < disksMost → between 1 copiesMost 7 6 s at ≡ got k e
+      → block high out s at ≡ ifUsed out (masked 0 (ascending k 0 high s e))
+  unfolding block _>>=_
+  block-of {k} {e} few h =
+      next (between 1 copiesMost 7 6) (λ k. ascending k 0 high >>= chosen out) s at h
+      ∙ chosen-masked out s (ascending k 0 high s e) (λ ds i g. disks-mask high ds few (ascending-rises high s k 0 e ds i g .1))
+
+  pub block-stops : {n : Note} → between 1 copiesMost 7 6 s at ≡ refused n → block high out s at ≡ refused n
   unfolding block
   block-stops h = stops (between 1 copiesMost 7 6) _ s at h
 
+masked-got : (o : Out (List ℕ)) {m e : ℕ} → got m e ≡ masked 0 o → (ds : List ℕ) × (o ≡ got ds e)
+unfolding masked
+masked-got (got ds n) h = (ds, cc)
+masked-got (refused e) h = absurd (let z : _≡_ {A = ℕ} 0 1 = cc in omega arith)
+
+-- the disks of a block stand behind some byte
+pub behind : (high : ℕ) → high < disksMost → (s : List ℕ) (k at : ℕ) (r : Copies) → 1 ≤ k
+    → toldCopies r ≡ masked 0 (ascending k 0 high s at) → Behind r
+unfolding toldCopies Behind
+behind high few s k at (Got m e) some h =
+    let w = masked-got (ascending k 0 high s at) h in
+    let more : k ≡ suc (k - 1) = omega arith in
+    ascending-last high (omega arith) s (k - 1) 0 at (w .0) e (ap (λ (i : ℕ). ascending i 0 high s at) (sym more) ∙ w .1) .0
+behind high few s k at (NoBlock e) some h = tt
+
+-- that some of its disks are in use: r holds those that are not in `gone`
+module _ {found : Copies} {m e : ℕ} (h : found ≡ Got m e) where
+  pub behind-some : Behind found → 0 < e
+  unfolding Behind
+  behind-some b = subst Behind h b
+
+  module _ (gone : ℕ) {r : ℕ} (left : (d : ℕ) → has r d ≡ (has m d && not (has gone d))) where
+    pub used-not : r ≡ 0 → refused (note 20 (e - 1)) ≡ ifUsed (has gone) (toldCopies found)
+    unfolding ifUsed toldCopies
+    used-not z = rw h (sym (pick-false _ _ (nothing-left m gone r left z)))
+
+    pub used-so : m < 2 ^ disksMost → r < 2 ^ disksMost → (r ≡ 0 → ⊥) → got m e ≡ ifUsed (has gone) (toldCopies found)
+    unfolding ifUsed toldCopies
+    used-so l k some = rw h (sym (pick-true _ _ (some-left m gone r left l k some)))
+
 -- what an accepted block says of each field
-pub record Listed (high : ℕ) (s : List ℕ) (at m e : ℕ) : Type 0 where
+pub record Listed (high : ℕ) (out : ℕ → Bool) (s : List ℕ) (at m e : ℕ) : Type 0 where
   pub count : ℕ
   pub mid : ℕ
   pub disks : List ℕ
@@ -181,17 +228,19 @@ pub record Listed (high : ℕ) (s : List ℕ) (at m e : ℕ) : Type 0 where
   pub some : count ≡ 0 → ⊥
   pub few : count ≤ copiesMost
   pub rest : ascending count 0 high s mid ≡ got disks e
+  pub some-in : used out disks ≡ true
   pub sum : maskOf disks ≡ m
 
-pub block-got : (high : ℕ) (s : List ℕ) (at m e : ℕ) → block high s at ≡ got m e → Listed high s at m e
+pub block-got : (high : ℕ) (out : ℕ → Bool) (s : List ℕ) (at m e : ℕ) → block high out s at ≡ got m e → Listed high out s at m e
 unfolding block
-block-got high s at m e h =
-    let f : Step (between 1 copiesMost 7 6 s at) (λ k j. (ascending k 0 high >>= λ ds. pure (maskOf ds)) s j) m e =
-    bind-got (between 1 copiesMost 7 6) s at m e (λ k. ascending k 0 high >>= λ ds. pure (maskOf ds)) h in
+block-got high out s at m e h =
+    let f : Step (between 1 copiesMost 7 6 s at) (λ k j. (ascending k 0 high >>= chosen out) s j) m e =
+    bind-got (between 1 copiesMost 7 6) s at m e (λ k. ascending k 0 high >>= chosen out) h in
     let w = between-within 1 copiesMost 7 6 s at (f .first) in
-    let j : Step (ascending (f .found) 0 high s (f .mid)) (λ ds k. pure (maskOf ds) s k) m e =
-    bind-got (ascending (f .found) 0 high) s (f .mid) m e (λ ds. pure (maskOf ds)) (f .last) in
-    let p : (maskOf (j .found) ≡ m) × (j .mid ≡ e) = pure-got (maskOf (j .found)) m s (j .mid) e (j .last) in
+    let j : Step (ascending (f .found) 0 high s (f .mid)) (λ ds k. chosen out ds s k) m e =
+    bind-got (ascending (f .found) 0 high) s (f .mid) m e (chosen out) (f .last) in
+    let g = passed _ _ _ s (j .mid) m e (sym (at-here _ s (j .mid)) ∙ j .last) in
+    let p : (maskOf (j .found) ≡ m) × (j .mid ≡ e) = pure-got (maskOf (j .found)) m s (j .mid) e (g .1) in
     record {
       count = f .found;
       mid = f .mid;
@@ -200,6 +249,7 @@ block-got high s at m e h =
       some = λ z. omega (arith, w .1);
       few = w .2;
       rest = j .first ∙ ap (got (j .found)) (p .1);
+      some-in = g .0;
       sum = p .0;
     }
 
@@ -307,23 +357,23 @@ heading-within unit t n s at {h} {e} w =
 -- ---- the blocks
 
 -- the first i blocks are read: their copies stand in the first i places, and the others are 0
-pub record Filling (q high : ℕ) (s : List ℕ) (at : ℕ) (copies : List ℕ) (p i : ℕ) : Type 0 where
+pub record Filling (q high : ℕ) (out : ℕ → Bool) (s : List ℕ) (at : ℕ) (copies : List ℕ) (p i : ℕ) : Type 0 where
   pub within : i ≤ q
   pub long : length copies ≡ blocksMost
   pub rest : drop i copies ≡ replicate (blocksMost - i) 0
-  pub held : times q (block high) s at ≡ prefix (take i copies) (times (q - i) (block high) s p)
+  pub held : times q (block high out) s at ≡ prefix (take i copies) (times (q - i) (block high out) s p)
 
 -- one 0 less
 drop-zeros : (k : ℕ) → k < blocksMost → drop {A = ℕ} 1 (replicate (blocksMost - k) 0) ≡ replicate (blocksMost - (k + 1)) 0
 drop-zeros k h = ap (λ (j : ℕ). drop {A = ℕ} 1 (replicate j 0)) {x = blocksMost - k} {y = suc (blocksMost - (k + 1))} (omega arith)
 
-module _ (q high : ℕ) (s : List ℕ) (at : ℕ) where
-  pub filling-start : Filling q high s at (replicate blocksMost 0) at 0
+module _ (q high : ℕ) (out : ℕ → Bool) (s : List ℕ) (at : ℕ) where
+  pub filling-start : Filling q high out s at (replicate blocksMost 0) at 0
   filling-start = record
-      { within = omega arith; long = length-replicate {A = ℕ} blocksMost 0; rest = refl; held = times-start (block high) s q at }
+      { within = omega arith; long = length-replicate {A = ℕ} blocksMost 0; rest = refl; held = times-start (block high out) s q at }
 
-  pub filling-step : (copies : List ℕ) (p i : ℕ) → Filling q high s at copies p i → {m e : ℕ} → i < q → q ≤ blocksMost
-      → block high s p ≡ got m e → Filling q high s at (set copies i m) e (i + 1)
+  pub filling-step : (copies : List ℕ) (p i : ℕ) → Filling q high out s at copies p i → {m e : ℕ} → i < q → q ≤ blocksMost
+      → block high out s p ≡ got m e → Filling q high out s at (set copies i m) e (i + 1)
   filling-step copies p i f {m} {e} l b h =
       let room : i < length copies = omega (arith, f .long) in
       record {
@@ -331,8 +381,8 @@ module _ (q high : ℕ) (s : List ℕ) (at : ℕ) where
         long = length-set copies i m ∙ f .long;
         rest = drop-set-lt (i + 1) copies i m (omega arith) ∙ sym (drop-drop 1 i copies) ∙ ap (drop 1) (f .rest)
             ∙ drop-zeros i (omega arith);
-        held = f .held ∙ times-step (block high) s q i p (take i copies) l h
-            ∙ ap (λ (x : List ℕ). prefix x (times (q - (i + 1)) (block high) s e)) (sym (take-suc-set copies i m room)
+        held = f .held ∙ times-step (block high out) s q i p (take i copies) l h
+            ∙ ap (λ (x : List ℕ). prefix x (times (q - (i + 1)) (block high out) s e)) (sym (take-suc-set copies i m room)
             ∙ ap (λ (k : ℕ). take k (set copies i m)) {x = suc i} {y = i + 1} (omega arith));
       }
 
@@ -340,36 +390,37 @@ module _ (q high : ℕ) (s : List ℕ) (at : ℕ) where
 abbrev pub said : ℕ → ℕ → List ℕ → Said
 said k a ms = record { kind = k; age = a; copies = ms }
 
-module _ (h : Head) (high : ℕ) (s : List ℕ) (at : ℕ) where
-  body-of : {ms : List ℕ} {e : ℕ} → times (h .blocks) (block high) s at ≡ got ms e → body h high s at ≡ got (said (h .kind) (h .age) ms) e
+module _ (h : Head) (high : ℕ) (out : ℕ → Bool) (s : List ℕ) (at : ℕ) where
+  body-of : {ms : List ℕ} {e : ℕ} → times (h .blocks) (block high out) s at ≡ got ms e
+      → body h high out s at ≡ got (said (h .kind) (h .age) ms) e
   unfolding body pure
-  body-of w = next (times (h .blocks) (block high)) _ s at w
+  body-of w = next (times (h .blocks) (block high out)) _ s at w
 
-  body-stops : {n : Note} → times (h .blocks) (block high) s at ≡ refused n → whole (body h high) s at ≡ refused n
+  body-stops : {n : Note} → times (h .blocks) (block high out) s at ≡ refused n → whole (body h high out) s at ≡ refused n
   unfolding body
-  body-stops w = whole-refused (body h high) s at (stops (times (h .blocks) (block high)) _ s at w)
+  body-stops w = whole-refused (body h high out) s at (stops (times (h .blocks) (block high out)) _ s at w)
 
-  module _ (copies : List ℕ) (p i : ℕ) (f : Filling (h .blocks) high s at copies p i) where
-    pub filling-stop : {n : Note} → i < h .blocks → block high s p ≡ refused n → whole (body h high) s at ≡ refused n
-    filling-stop l w = body-stops (f .held ∙ times-stop (block high) s (h .blocks) i p (take i copies) l w)
+  module _ (copies : List ℕ) (p i : ℕ) (f : Filling (h .blocks) high out s at copies p i) where
+    pub filling-stop : {n : Note} → i < h .blocks → block high out s p ≡ refused n → whole (body h high out) s at ≡ refused n
+    filling-stop l w = body-stops (f .held ∙ times-stop (block high out) s (h .blocks) i p (take i copies) l w)
 
-    all-read : h .blocks ≤ i → body h high s at ≡ got (said (h .kind) (h .age) (take (h .blocks) copies)) p
+    all-read : h .blocks ≤ i → body h high out s at ≡ got (said (h .kind) (h .age) (take (h .blocks) copies)) p
     all-read l =
         let e : i ≡ h .blocks = omega (arith, f .within) in
-        body-of (f .held ∙ times-done (block high) s (h .blocks) i p (take i copies) l ∙ ap (λ (k : ℕ). got (take k copies) p) e)
+        body-of (f .held ∙ times-done (block high out) s (h .blocks) i p (take i copies) l ∙ ap (λ (k : ℕ). got (take k copies) p) e)
 
-    pub filling-extra : {n : Note} → h .blocks ≤ i → end s p ≡ refused n → whole (body h high) s at ≡ refused n
+    pub filling-extra : {n : Note} → h .blocks ≤ i → end s p ≡ refused n → whole (body h high out) s at ≡ refused n
     unfolding whole
-    filling-extra l w = next (body h high) _ s at (all-read l) ∙ halts end _ s p w
+    filling-extra l w = next (body h high out) _ s at (all-read l) ∙ halts end _ s p w
 
     pub filling-done : {v e : ℕ} (r : Request) → r .answer ≡ Accepted (h .blocks) → r .kind ≡ h .kind → r .age ≡ h .age → r .copies ≡ copies
-        → h .blocks ≤ i → h .blocks ≤ blocksMost → end s p ≡ got v e → Told (length s) (whole (body h high) s at) r
+        → h .blocks ≤ i → h .blocks ≤ blocksMost → end s p ≡ got v e → Told (length s) (whole (body h high out) s at) r
     unfolding whole pure toldAnswer counted kindIn ageIn copiesOf
     filling-done {v} {e} r a k g b l small w =
         let q = h .blocks in
         let n : length (take q copies) ≡ q = length-take-le q copies (omega (arith, f .long)) in
-        let o : whole (body h high) s at ≡ got (said (h .kind) (h .age) (take q copies)) e =
-        next (body h high) _ s at (all-read l) ∙ then end _ s p w in
+        let o : whole (body h high out) s at ≡ got (said (h .kind) (h .age) (take q copies)) e =
+        next (body h high out) _ s at (all-read l) ∙ then end _ s p w in
         let i≡q : i ≡ q = omega (arith, f .within) in
         record {
           told = ap (toldAnswer (length s)) a ∙ ap (got q) (sym (end-place s p v e w))
@@ -386,39 +437,41 @@ module _ (h : Head) (high : ℕ) (s : List ℕ) (at : ℕ) where
 pub answered-of : {len : ℕ} {n : Note} {o : Out Said} {r : Request} → o ≡ refused n → Told len (refused n) r → Told len o r
 answered-of {len} {n} {o} {r} h a = subst (λ (x : Out Said). Told len x r) (sym h) a
 
-module _ (unit t n : ℕ) (s : List ℕ) where
-  pub sheet-next : {h : Head} {e : ℕ} → heading unit t n s 0 ≡ got h e → requestSheet unit t n s 0 ≡ whole (body h (lastDisk n)) s e
+module _ (unit t n : ℕ) (out : ℕ → Bool) (s : List ℕ) where
+  pub sheet-next : {h : Head} {e : ℕ} → heading unit t n s 0 ≡ got h e → requestSheet unit t n out s 0 ≡ whole (body h (lastDisk n) out) s e
   unfolding requestSheet
-  sheet-next w = whole-next (heading unit t n) (λ h. body h (lastDisk n)) s 0 w
+  sheet-next w = whole-next (heading unit t n) (λ h. body h (lastDisk n) out) s 0 w
 
-  pub sheet-stops : {m : Note} → heading unit t n s 0 ≡ refused m → requestSheet unit t n s 0 ≡ refused m
+  pub sheet-stops : {m : Note} → heading unit t n s 0 ≡ refused m → requestSheet unit t n out s 0 ≡ refused m
   unfolding requestSheet
-  sheet-stops w = whole-stops (heading unit t n) (λ h. body h (lastDisk n)) s 0 w
+  sheet-stops w = whole-stops (heading unit t n) (λ h. body h (lastDisk n) out) s 0 w
 
 -- the blocks of a sheet whose heading was accepted
-pub answered-sheet : (unit t n : ℕ) (s : List ℕ) {h : Head} {e high : ℕ} {r : Request} → heading unit t n s 0 ≡ got h e → high ≡ lastDisk n
-    → Told (length s) (whole (body h high) s e) r → Told (length s) (requestSheet unit t n s 0) r
-answered-sheet unit t n s {h} {e} {high} {r} w l a =
-    subst (λ (x : Out Said). Told (length s) x r) (ap (λ (k : ℕ). whole (body h k) s e) l ∙ sym (sheet-next unit t n s w)) a
+pub answered-sheet : (unit t n : ℕ) (out : ℕ → Bool) (s : List ℕ) {h : Head} {e high : ℕ} {r : Request}
+    → heading unit t n s 0 ≡ got h e → high ≡ lastDisk n → Told (length s) (whole (body h high out) s e) r
+    → Told (length s) (requestSheet unit t n out s 0) r
+answered-sheet unit t n out s {h} {e} {high} {r} w l a =
+    subst (λ (x : Out Said). Told (length s) x r) (ap (λ (k : ℕ). whole (body h k out) s e) l ∙ sym (sheet-next unit t n out s w)) a
 
 -- what an accepted sheet says of its two parts
-pub record Whole (unit t n : ℕ) (s : List ℕ) (r : Said) (e : ℕ) : Type 0 where
+pub record Whole (unit t n : ℕ) (out : ℕ → Bool) (s : List ℕ) (r : Said) (e : ℕ) : Type 0 where
   pub count : ℕ
   pub mid : ℕ
   pub headed : Headed unit t n s 0 (record { kind = r .kind; age = r .age; blocks = count }) mid
   pub small : count ≤ blocksMost
-  pub rest : times count (block (lastDisk n)) s mid ≡ got (r .copies) e
+  pub rest : times count (block (lastDisk n) out) s mid ≡ got (r .copies) e
   pub ends : e ≡ length s
 
-pub sheet-got : (unit t n : ℕ) (s : List ℕ) (r : Said) (e : ℕ) → requestSheet unit t n s 0 ≡ got r e → Whole unit t n s r e
+pub sheet-got : (unit t n : ℕ) (out : ℕ → Bool) (s : List ℕ) (r : Said) (e : ℕ) → requestSheet unit t n out s 0 ≡ got r e
+    → Whole unit t n out s r e
 unfolding requestSheet body
-sheet-got unit t n s r e h =
-    let w = whole-got (heading unit t n >>= λ h. body h (lastDisk n)) s r e h in
-    let f = bind-got (heading unit t n) s 0 r e (λ h. body h (lastDisk n)) (w .0) in
+sheet-got unit t n out s r e h =
+    let w = whole-got (heading unit t n >>= λ h. body h (lastDisk n) out) s r e h in
+    let f = bind-got (heading unit t n) s 0 r e (λ h. body h (lastDisk n) out) (w .0) in
     let made : List ℕ → Said = λ ms. said (f .found .kind) (f .found .age) ms in
-    let g = bind-got (times (f .found .blocks) (block (lastDisk n))) s (f .mid) r e (λ ms. pure (made ms)) (f .last) in
+    let g = bind-got (times (f .found .blocks) (block (lastDisk n) out)) s (f .mid) r e (λ ms. pure (made ms)) (f .last) in
     let p : (made (g .found) ≡ r) × (g .mid ≡ e) = pure-got (made (g .found)) r s (g .mid) e (g .last) in
-    subst (λ (x : Said). Whole unit t n s x e) (p .0) (record {
+    subst (λ (x : Said). Whole unit t n out s x e) (p .0) (record {
       count = f .found .blocks;
       mid = f .mid;
       headed = heading-got unit t n s 0 (f .found) (f .mid) (f .first);

@@ -1,5 +1,6 @@
 -- Each promise of this crate fixes the answer: no second one satisfies it.
 use mathlib.Core.Path.{_≡_, refl, sym, ap, ap₂, _∙_}
+use mathlib.Core.Bool.{Bool}
 use mathlib.Core.List.{List, []}
 use Prim.Native.Nat.{ℕ}
 use Rattle.field.specs.declared.Verdict.{Verdict}
@@ -31,9 +32,9 @@ same-request r r′ a k g c =
     ap₂ (λ x y. made x (r .kind) (r .age) y) a c ∙ ap₂ (λ i j. made (r′ .answer) i j (r′ .copies)) k g
 
 -- `read`: the answer, the kind, the age and the copies
-pub read-unique : (unit t n : ℕ) (s : List ℕ) (len : ℕ) (r r′ : Request) → Told len (requestSheet unit t n s 0) r
-    → Told len (requestSheet unit t n s 0) r′ → r ≡ r′
-read-unique unit t n s len r r′ p q = same-request r r′ (told-injective len (r .answer) (r′ .answer) (p .told ∙ sym (q .told)))
+pub read-unique : (unit t n : ℕ) (out : ℕ → Bool) (s : List ℕ) (len : ℕ) (r r′ : Request) → Told len (requestSheet unit t n out s 0) r
+    → Told len (requestSheet unit t n out s 0) r′ → r ≡ r′
+read-unique unit t n out s len r r′ p q = same-request r r′ (told-injective len (r .answer) (r′ .answer) (p .told ∙ sym (q .told)))
     (p .kind ∙ sym (q .kind)) (p .age ∙ sym (q .age)) (p .held ∙ sym (q .held))
 
 -- `judge`: two verdicts on the same fields say the same of a sheet, whatever it is

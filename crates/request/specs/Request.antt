@@ -3,6 +3,7 @@
 --     kinds            the kinds of sheets that are read requests
 --     Said             what a request says: its kind, the age, the numbers of copies of its blocks
 --     lastDisk         the last disk of a unit that has N disks
+--     used             whether some disk of a list is in use
 --     block            one block, as the number of its copies
 --     opening          kind, unit, tenancy, and that there are settings: the kind
 --     age              the age, of kind 4 alone
@@ -10,6 +11,7 @@
 --     body             Q blocks
 --     requestSheet     a whole read request
 use Prim.Native.Nat.{ℕ, _-_}
+use mathlib.Core.Bool.{Bool, false, not, _||_}
 use mathlib.Core.List.{List, [], _∷_}
 use lib.Dec.{eqb, ltb}
 use Rattle.basics.specs.Limits.{disksMost, blocksMost, copiesMost}
@@ -31,11 +33,19 @@ pub record Said : Type 0 where
 unfoldable pub lastDisk : ℕ → ℕ
 lastDisk n = pick (ltb n disksMost) (n - 1) (disksMost - 1)
 
--- k from 1 to 8, then k disks up to the last one, rising; k = 0 is 7
-unfoldable pub block : ℕ → Parser ℕ
-block high = do
+-- where some disks are out
+unfoldable pub used : (ℕ → Bool) → List ℕ → Bool
+used out [] = false
+used out (d ∷ ds) = not (out d) || used out ds
+
+-- k from 1 to 8, then k disks up to the last one, rising; k = 0 is 7. Where all of them are out, 20 at the last of them: a disk's number is
+-- one byte
+unfoldable pub block : ℕ → (ℕ → Bool) → Parser ℕ
+block high out = do
   k ← between 1 copiesMost 7 6
   ds ← ascending k 0 high
+  next ← here
+  require (used out ds) (note 20 (next - 1))
   pure (maskOf ds)
 
 -- the kind, the unit, its tenancy (no tenancy is 0), settings (N = 0 means none yet: 10 at the byte after the tenancy)
@@ -58,14 +68,14 @@ heading unit t n = do
   q ← inside 0 blocksMost 6
   pure (record { kind = k; age = a; blocks = q })
 
--- the blocks of a heading, on disks up to the last one
-unfoldable pub body : Head → ℕ → Parser Said
-body h high = do
-  ms ← times (h .blocks) (block high)
+-- the blocks of a heading, on disks up to the last one, of which some are out
+unfoldable pub body : Head → ℕ → (ℕ → Bool) → Parser Said
+body h high out = do
+  ms ← times (h .blocks) (block high out)
   pure (record { kind = h .kind; age = h .age; copies = ms })
 
--- the heading, Q blocks, and the end of the sheet
-unfoldable pub requestSheet : ℕ → ℕ → ℕ → Parser Said
-requestSheet unit t n = whole do
+-- the heading, Q blocks, and the end of the sheet; the copies are given as they are named, disks that are out among them
+unfoldable pub requestSheet : ℕ → ℕ → ℕ → (ℕ → Bool) → Parser Said
+requestSheet unit t n out = whole do
   h ← heading unit t n
-  body h (lastDisk n)
+  body h (lastDisk n) out

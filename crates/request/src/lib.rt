@@ -22,7 +22,8 @@ ghost use Rattle.field.specs.Told.{told};
 ghost use Rattle.request.specs.Disks.{disksOf};
 ghost use Rattle.request.specs.Draft.{blockBytes, ageBytes, headingBytes, requestBytes, requestDraft};
 ghost use Rattle.request.specs.Judged.{Judged};
-ghost use Rattle.request.specs.Parts.{toldHead, toldCopies, masked, Beyond, Counted, Sized};
+ghost use Rattle.mask.specs.Has.{has};
+ghost use Rattle.request.specs.Parts.{toldHead, toldCopies, masked, Beyond, Behind, ifUsed, Counted, Sized};
 ghost use Rattle.request.specs.Request.{lastDisk, block, age as ageOf, opening as openingOf, heading as headingOf};
 ghost use Rattle.request.specs.Request.{body as bodyOf, requestSheet};
 ghost use Rattle.request.specs.Told.{Told};
@@ -130,13 +131,32 @@ fn gather(s: &[u8], at: usize, k: u32, high: u32) -> Copies
     Copies::Got(m, p)
 }
 
-// One block at a place: its copy count, and its disks up to the last one.
-fn one_block(s: &[u8], at: usize, high: u32) -> Copies
+// The copies of a block, where not all of them are out; else 20 at the last of them, one byte back.
+fn in_use(found: Copies, out: u64) -> Copies
+    requires { ⌜ Behind found ⌝ }
+    ensures { λ r. ⌜ toldCopies r ≡ ifUsed (has out) (toldCopies found) ⌝ }
+{
+    match found {
+        Copies::Got(m, next) => {
+            if mask::without(m, out) == 0 {
+                return Copies::Refused(Fault {
+                    refusal: Refusal::AllOut,
+                    place: next - 1,
+                });
+            }
+            Copies::Got(m, next)
+        }
+        Copies::Refused(e) => Copies::Refused(e),
+    }
+}
+
+// One block at a place: its copy count, and its disks up to the last one, of which some must be in use.
+fn one_block(s: &[u8], at: usize, high: u32, out: u64) -> Copies
     requires { ⌜ high < disksMost ⌝ }
-    ensures { λ r. ⌜ toldCopies r ≡ block high (now (s .entry)) at ⌝ }
+    ensures { λ r. ⌜ toldCopies r ≡ block high (has out) (now (s .entry)) at ⌝ }
 {
     match field::between(s, at, 1, COPIES, Refusal::NoCopy, Refusal::OutOfRange) {
-        Field::Got(k, next) => gather(s, next, k, high),
+        Field::Got(k, next) => in_use(gather(s, next, k, high), out),
         Field::Refused(e) => Copies::Refused(e),
     }
 }
@@ -155,16 +175,16 @@ fn refuse(e: Fault) -> Request
 }
 
 // The blocks of a heading from a place on, and the end of the sheet.
-fn blocks(s: &[u8], at: usize, heading: Head, high: u32) -> Request
+fn blocks(s: &[u8], at: usize, heading: Head, high: u32, out: u64) -> Request
     requires { ⌜ (heading .blocks ≤ blocksMost) × (high < disksMost) ⌝ }
-    ensures { λ r. ⌜ Told (length (now (s .entry))) (whole (bodyOf heading high) (now (s .entry)) at) r ⌝ }
+    ensures { λ r. ⌜ Told (length (now (s .entry))) (whole (bodyOf heading high (has out)) (now (s .entry)) at) r ⌝ }
 {
     let mut copies = [0u64; BLOCKS];
     let q = heading.blocks as usize;
     let mut p = at;
     let mut i: usize = 0;
     while i < q {
-        match one_block(s, p, high) {
+        match one_block(s, p, high, out) {
             Copies::Got(m, next) => {
                 copies[i] = m;
                 p = next;
@@ -242,12 +262,12 @@ fn heading(s: &[u8], unit: u32, tenancy: u32, disks: u32) -> HeadRead
     }
 }
 
-// Reads a request for a unit, its tenancy (0: not rented) and its N (0: no settings yet).
-pub fn read(s: &[u8], unit: u32, tenancy: u32, disks: u32) -> Request
-    ensures { λ r. ⌜ Told (length (now (s .entry))) (requestSheet unit tenancy disks (now (s .entry)) 0) r ⌝ }
+// Reads a request for a unit, its tenancy (0: not rented), its N (0: no settings yet) and the disks that are out.
+pub fn read(s: &[u8], unit: u32, tenancy: u32, disks: u32, out: u64) -> Request
+    ensures { λ r. ⌜ Told (length (now (s .entry))) (requestSheet unit tenancy disks (has out) (now (s .entry)) 0) r ⌝ }
 {
     match heading(s, unit, tenancy, disks) {
-        HeadRead::Got(h, at) => blocks(s, at, h, last(disks)),
+        HeadRead::Got(h, at) => blocks(s, at, h, last(disks), out),
         HeadRead::Refused(e) => refuse(e),
     }
 }

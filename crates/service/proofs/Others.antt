@@ -14,14 +14,14 @@ use Rattle.field.proofs.Refusal.{the-type}
 use Rattle.field.specs.declared.Refusal.{Refusal}
 use Rattle.field.specs.declared.Refusal.the-variants.{SheetEnds, BadNumber, WrongKind, WrongUnit, WrongTenancy, OutOfRange, NoCopy}
 use Rattle.field.specs.declared.Refusal.the-variants.{NotRising, BytesFollow, NoSettings, NoRoom, Rented, NotAbove, NotTheTenant}
-use Rattle.field.specs.declared.Refusal.the-variants.{BadAmount, BadIndex}
+use Rattle.field.specs.declared.Refusal.the-variants.{BadAmount, BadIndex, AllOut}
 use Rattle.field.specs.Refusal.{numberOf}
 use Rattle.field.specs.Sheet.{note}
 use Rattle.service.specs.Shelf.{waits}
 
 -- the places of all refusals but the first
 abbrev pub others : List ℕ
-others = 1 ∷ 2 ∷ 3 ∷ 4 ∷ 5 ∷ 6 ∷ 7 ∷ 8 ∷ 9 ∷ 10 ∷ 11 ∷ 12 ∷ 13 ∷ 14 ∷ 15 ∷ []
+others = 1 ∷ 2 ∷ 3 ∷ 4 ∷ 5 ∷ 6 ∷ 7 ∷ 8 ∷ 9 ∷ 10 ∷ 11 ∷ 12 ∷ 13 ∷ 14 ∷ 15 ∷ 16 ∷ []
 
 -- all above 0
 above : List ℕ → Bool
@@ -53,6 +53,7 @@ tagged NotAbove p ended h = refl
 tagged NotTheTenant p ended h = refl
 tagged BadAmount p ended h = refl
 tagged BadIndex p ended h = refl
+tagged AllOut p ended h = refl
 
 pub waits-not : (e : Refusal) (p : ℕ) (ended : Bool) → OneOf others (tagOf the-type e) → false ≡ waits ended (note (numberOf e) p)
 unfolding above

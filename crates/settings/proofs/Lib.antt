@@ -1,5 +1,6 @@
-pub mod Rows
+pub mod Alone
 pub mod Rules
+pub mod Rows
 pub mod Reading
 pub mod Writing
 pub mod Accepted

@@ -1,7 +1,7 @@
 -- Laws of the reader.
 --     told-by                                                 what an answer told
---     row-got, row-first, row-second, row-third               a row, and the fields at which it may stop
---     heading-got, heading-stops, heading-out                 all before the rows, and the fields at which it may stop
+--     row-got, row-first, row-second, row-third, row-fourth     a row, and the fields at which it may stop
+--     heading-got, heading-stops, heading-out, heading-rule     all before the rows, and the fields at which it may stop
 --     Rows, rows-start, rows-step, rows-stop, rows-told       the loop over the rows
 --     told-none, read-told, read-stops                        how the reader ends
 use mathlib.Core.Path.{_≡_, refl, sym, ap, _∙_, subst}
@@ -25,9 +25,9 @@ use Rattle.settings.specs.declared.Head.{Head}
 use Rattle.settings.specs.declared.Row.{Row}
 use Rattle.settings.specs.declared.Settings.{Settings}
 use Rattle.settings.specs.declared.Table.{Table}
-use Rattle.settings.specs.Row.{disk, noDisk, cost, load, delay, row}
+use Rattle.settings.specs.Row.{disk, noDisk, cost, load, delay, mark, row}
 use Rattle.settings.specs.Table.{table, noTable}
-use Rattle.settings.specs.Sheet.{kinds, ruleOf, heading, body, fields, settingsSheet}
+use Rattle.settings.specs.Sheet.{kinds, ruleIn, rule, heading, body, fields, settingsSheet}
 use Rattle.settings.specs.Told.{toldBy, tableOf, Told}
 use Rattle.settings.specs.Parts.{refusedWith}
 
@@ -37,24 +37,29 @@ told-by tell h q = sym h ∙ ap tell q
 
 -- ---- a row
 
-module _ (s : List ℕ) (at : ℕ) where
-  pub row-first : {m : Note} → cost s at ≡ refused m → row s at ≡ refused m
+module _ (k : ℕ) (s : List ℕ) (at : ℕ) where
+  pub row-first : {m : Note} → cost s at ≡ refused m → row k s at ≡ refused m
   unfolding row
   row-first f = stops cost _ s at f
 
   module _ {c a : ℕ} (f : cost s at ≡ got c a) where
-    pub row-second : {m : Note} → load s a ≡ refused m → row s at ≡ refused m
+    pub row-second : {m : Note} → load s a ≡ refused m → row k s at ≡ refused m
     unfolding row
     row-second g = next cost _ s at f ∙ stops load _ s a g
 
     module _ {l b : ℕ} (g : load s a ≡ got l b) where
-      pub row-third : {m : Note} → delay s b ≡ refused m → row s at ≡ refused m
+      pub row-third : {m : Note} → delay s b ≡ refused m → row k s at ≡ refused m
       unfolding row
       row-third h = next cost _ s at f ∙ next load _ s a g ∙ stops delay _ s b h
 
-      pub row-got : {d e : ℕ} → delay s b ≡ got d e → row s at ≡ got (disk c l d) e
-      unfolding row pure
-      row-got h = next cost _ s at f ∙ next load _ s a g ∙ next delay _ s b h
+      module _ {d e : ℕ} (h : delay s b ≡ got d e) where
+        pub row-fourth : {m : Note} → mark k s e ≡ refused m → row k s at ≡ refused m
+        unfolding row
+        row-fourth i = next cost _ s at f ∙ next load _ s a g ∙ next delay _ s b h ∙ stops (mark k) _ s e i
+
+        pub row-got : {m n : ℕ} → mark k s e ≡ got m n → row k s at ≡ got (disk c l d m) n
+        unfolding row pure
+        row-got i = next cost _ s at f ∙ next load _ s a g ∙ next delay _ s b h ∙ next (mark k) _ s e i
 
 -- ---- all before the rows
 
@@ -68,12 +73,17 @@ module _ (unit t : ℕ) (s : List ℕ) (at : ℕ) where
     unfolding heading
     heading-out g = next (opening kinds unit t) _ s at f ∙ stops (inside 1 disksMost 6) _ s a g
 
-    pub heading-got : {n e : ℕ} {r : Rule} → inside 1 disksMost 6 s a ≡ got n e → r ≡ ruleOf k
-        → heading unit t s at ≡ got (record { disks = n; rule = r }) e
-    unfolding heading pure
-    heading-got {n} {e} g q =
-        next (opening kinds unit t) _ s at f ∙ next (inside 1 disksMost 6) _ s a g
-        ∙ ap (λ x. got (record { disks = n; rule = x }) e) (sym q)
+    module _ {n b : ℕ} (g : inside 1 disksMost 6 s a ≡ got n b) where
+      pub heading-rule : {m : Note} → rule k s b ≡ refused m → heading unit t s at ≡ refused m
+      unfolding heading
+      heading-rule h = next (opening kinds unit t) _ s at f ∙ next (inside 1 disksMost 6) _ s a g ∙ stops (rule k) _ s b h
+
+      pub heading-got : {r e : ℕ} {x : Rule} → rule k s b ≡ got r e → x ≡ ruleIn r
+          → heading unit t s at ≡ got (record { kind = k; disks = n; rule = x }) e
+      unfolding heading pure
+      heading-got {r} {e} h q =
+          next (opening kinds unit t) _ s at f ∙ next (inside 1 disksMost 6) _ s a g ∙ next (rule k) _ s b h
+          ∙ ap (λ y. got (record { kind = k; disks = n; rule = y }) e) (sym q)
 
 -- ---- the loop over the rows
 
@@ -82,7 +92,7 @@ pub record Rows (h : Head) (s : List ℕ) (start : ℕ) (rows : List Row) (at i 
   pub done : List Row
   pub count : length done ≡ i
   pub below : i ≤ h .disks
-  pub spec : times (h .disks) row s start ≡ prefix done (times (h .disks - i) row s at)
+  pub spec : times (h .disks) (row (h .kind)) s start ≡ prefix done (times (h .disks - i) (row (h .kind)) s at)
   pub held : rows ≡ padTo noDisk disksMost done
 
 -- none yet, in the empty table
@@ -92,29 +102,31 @@ rows-start h s start q = record {
   done = [];
   count = refl;
   below = omega arith;
-  spec = times-start row s (h .disks) start;
+  spec = times-start (row (h .kind)) s (h .disks) start;
   held = ap (λ x. x .rows) q;
 }
 
 module _ {h : Head} {s : List ℕ} {start : ℕ} {rows : List Row} {at i : ℕ} (w : Rows h s start rows at i) where
-  pub rows-step : {r : Row} {e : ℕ} → h .disks ≤ disksMost → i < h .disks → row s at ≡ got r e → Rows h s start (set rows i r) e (i + 1)
+  pub rows-step : {r : Row} {e : ℕ} → h .disks ≤ disksMost → i < h .disks → row (h .kind) s at ≡ got r e
+      → Rows h s start (set rows i r) e (i + 1)
   rows-step {r} {e} few l f = record {
     done = w .done ++ (r ∷ []);
     count = omega (arith, w .count, length-append (w .done) (r ∷ []));
     below = omega arith;
-    spec = w .spec ∙ times-step row s (h .disks) i at (w .done) l f;
+    spec = w .spec ∙ times-step (row (h .kind)) s (h .disks) i at (w .done) l f;
     held = ap (λ x. set x i r) (w .held) ∙ pad-set noDisk disksMost (w .done) r i (w .count) (omega arith);
   }
 
   -- a row that is refused
-  pub rows-stop : {m : Note} → i < h .disks → row s at ≡ refused m → whole (body h) s start ≡ refused m
+  pub rows-stop : {m : Note} → i < h .disks → row (h .kind) s at ≡ refused m → whole (body h) s start ≡ refused m
   unfolding whole body
   rows-stop l f =
-      stops (body h) _ s start (stops (times (h .disks) row) _ s start (w .spec ∙ times-stop row s (h .disks) i at (w .done) l f))
+      stops (body h) _ s start
+      (stops (times (h .disks) (row (h .kind))) _ s start (w .spec ∙ times-stop (row (h .kind)) s (h .disks) i at (w .done) l f))
 
   all-rows : h .disks ≤ i → body h s start ≡ got (table (h .disks) (h .rule) (w .done)) at
   unfolding body pure
-  all-rows l = next (times (h .disks) row) _ s start (w .spec ∙ times-done row s (h .disks) i at (w .done) l)
+  all-rows l = next (times (h .disks) (row (h .kind))) _ s start (w .spec ∙ times-done (row (h .kind)) s (h .disks) i at (w .done) l)
 
   -- bytes after the last row
   pub rows-extra : {m : Note} → h .disks ≤ i → end s at ≡ refused m → whole (body h) s start ≡ refused m

@@ -1,155 +1,214 @@
 -- Reading what was written, and writing what was read.
 --     reads-sheet           the bytes of a sheet are read as its table
---     read-written          reading what the writer wrote gives the same values
---     write-accepted, written-accepted     writing what the reader accepted gives the same bytes
+--     read-sent             reading what was written of a kind gives the same values: the rule, and the rows with their marks
+--     read-written, read-marked     the same of kinds 1 and 5, where all marks are 0, and of kind 6
+--     write-accepted, write-unmarked     writing what the reader accepted gives the same bytes, by its kind; of kinds 1 and 5 without marks
+--     written-accepted, written-unmarked     the same of the writer's buffer
 use mathlib.Core.Path.{_≡_, refl, sym, ap, ap₂, _∙_, subst}
-use mathlib.Core.Bool.{true}
+use mathlib.Core.Bool.{true, false}
 use mathlib.Core.List.{List, [], _∷_, _++_, map}
 use Prim.Native.Nat.{ℕ, _-_, _^_, _≤_, _<_}
 use native.Mathlib.Omega.{arith}
-use borrow.Author.Tests.{le-leb}
-use lib.ListN.{length, take, length-map}
+use lib.Dec.{eqb}
+use lib.ListN.{length, take, replicate, length-map}
 use Rattle.basics.specs.Buffer.{over}
+use Rattle.basics.specs.Choice.{pick}
 use Rattle.basics.specs.Limits.{disksMost, costMost, loadMost, delayMost}
-use Rattle.basics.proofs.Padded.{pad-front}
-use Rattle.basics.proofs.Choice.{pick-true}
+use Rattle.basics.specs.Lists.{All}
 use Rattle.number.specs.Bytes.{Bytes}
 use Rattle.number.specs.Encode.{encode}
 use Rattle.field.specs.declared.Written.{Written}
 use Rattle.field.specs.declared.Written.the-variants.{Length}
 use Rattle.field.specs.Put.{spellAll, openingBytes}
-use Rattle.field.specs.Send.{sheet, none, toldWritten, answerTo, leftBy, Sent}
-use Rattle.field.specs.Sheet.{got, refused}
+use Rattle.field.specs.Send.{sheet, Sent}
+use Rattle.field.specs.Sheet.{got}
+use Rattle.field.specs.Field.{opening}
 use Rattle.field.proofs.Read.{Reads, reads-bind, reads-pure, reads-checked, reads-between, reads-whole}
 use Rattle.field.proofs.Spelt.{Spelt, spelt-join, spelt-whole, between-spelt}
-use Rattle.field.proofs.Opened.{reads-opening, opening-spelt}
-use Rattle.field.proofs.Sends.{sent-bytes, written-injective}
+use Rattle.field.proofs.Opened.{reads-opening, opening-spelt, opening-kind}
+use Rattle.field.proofs.Sends.{sent-sheet, sent-room}
 use Rattle.field.proofs.Lists.{reads-times, times-spelt}
 use Rattle.model.specs.declared.Rule.{Rule}
 use Rattle.settings.specs.declared.Row.{Row}
 use Rattle.settings.specs.declared.Table.{Table}
-use Rattle.settings.specs.Row.{noDisk, row, allInRange, rowBytes}
-use Rattle.settings.specs.Table.{table, diskRows, costs, loads, delays}
-use Rattle.settings.specs.Sheet.{kinds, heading, body, fields, settingsSheet}
-use Rattle.settings.specs.Draft.{rowsOf, kindOf, headingBytes, sheetBytes, settingsDraft}
-use Rattle.settings.proofs.Rules.{kind-listed, kind-small, rule-kind, kind-rule}
-use Rattle.settings.proofs.Rows.{Good, in-range, range-in, all-rows, rows-all}
-use Rattle.settings.proofs.Writing.{ListsFit, draft-either, draft-sheet}
-use Rattle.settings.proofs.Accepted.{row-steps, sheet-steps, accepted-tenancy}
+use Rattle.settings.specs.Row.{mark, row, allInRange, markBytes, rowBytes}
+use Rattle.settings.specs.Table.{table, diskRows, costs, loads, delays, marks}
+use Rattle.settings.specs.Sheet.{kinds, ruleIn, rule, heading, body, fields, settingsSheet}
+use Rattle.settings.specs.Draft.{rowsOf, kindOf, ruleNumber, ruleBytes, headingBytes, sheetBytes}
+use Rattle.settings.specs.Draft.{sheetDraft, settingsDraft, markedDraft}
+use Rattle.settings.proofs.Alone.{reads-alone, alone-spelt}
+use Rattle.settings.proofs.Rules.{rule-number, number-rule, kind-small, kind-rule, InUse, Says, says-rule, says-marked}
+use Rattle.settings.proofs.Rows.{Good, in-range, all-rows, rows-all}
+use Rattle.settings.proofs.Writing.{ListsFit, draft-sheet, drafted}
+use Rattle.settings.proofs.Accepted.{row-steps, row-good, sheet-steps, number-range, accepted-tenancy}
+use Rattle.settings.proofs.Accepted.{rows-held, accepted-kind, accepted-rule, rows-in-use}
 
 -- ---- reading what was written
 
-reads-row : (r : Row) → Good r → Reads row (rowBytes r) r
-unfolding row rowBytes
-reads-row r h =
-    let w = in-range r h in
+-- a row that a sheet of a kind can say
+abbrev Sayable : ℕ → Row → Type 0
+Sayable k r = Good r × (eqb k 6 ≡ false → InUse r)
+
+all-sayable : (k : ℕ) (rows : List Row) → All Good rows → (eqb k 6 ≡ false → All InUse rows) → All (Sayable k) rows
+unfolding All
+all-sayable k [] g u = tt
+all-sayable k (r ∷ rows) g u = ((g .0, λ f. u f .0), all-sayable k rows (g .1) (λ f. u f .1))
+
+reads-row : (k : ℕ) (r : Row) → Sayable k r → Reads (row k) (rowBytes k r) r
+unfolding row rowBytes mark markBytes
+reads-row k r h =
+    let w = in-range r (h .0) in
     reads-bind _ (reads-between 1 costMost 15 15 (r .cost) (w .cost-low) (w .cost-high) (omega (arith, w .cost-high)))
     (reads-bind _ (reads-between 0 loadMost 15 15 (r .load) (omega arith) (w .load-high) (omega (arith, w .load-high)))
-    (reads-checked _ (reads-between 0 delayMost 15 15 (r .delay) (omega arith) (w .delay-high)
-    (omega (arith, w .delay-high))) (reads-pure r)))
+    (reads-bind _ (reads-between 0 delayMost 15 15 (r .delay) (omega arith) (w .delay-high) (omega (arith, w .delay-high)))
+    (reads-checked _ (reads-alone (eqb k 6) 0 1 0 (r .mark)
+    (record { ranged = λ _. (omega arith, w .mark-high); said = h .1 }) (omega arith)) (reads-pure r))))
 
-module _ (r : Rule) (unit t : ℕ) (rows : List Row) (u : unit < 2 ^ 32) (v : t < 2 ^ 32) (rented : 0 < t)
-    (some : 1 ≤ length rows) (few : length rows ≤ disksMost) (good : allInRange rows ≡ true) where
-  reads-heading : Reads (heading unit t) (headingBytes r unit t (length rows)) (record { disks = length rows; rule = r })
-  unfolding heading headingBytes
+module _ (k unit t r : ℕ) (rows : List Row) (u : unit < 2 ^ 32) (v : t < 2 ^ 32) (rented : 0 < t) (some : 1 ≤ length rows)
+    (few : length rows ≤ disksMost) (low : 1 ≤ r) (high : r ≤ 2) (good : allInRange rows ≡ true) (says : Says k r rows) where
+  reads-heading : Reads (heading unit t) (headingBytes k unit t (length rows) r)
+      (record { kind = k; disks = length rows; rule = ruleIn r })
+  unfolding heading headingBytes rule ruleBytes
   reads-heading =
-      subst (λ (x : Rule). Reads (heading unit t) (headingBytes r unit t (length rows)) (record { disks = length rows; rule = x }))
-      (rule-kind r)
-      (reads-bind _ (reads-opening unit t u rented v kinds (kindOf r) (kind-listed r) (omega (arith, kind-small r)))
-      (reads-checked _ (reads-between 1 disksMost 6 6 (length rows) some few (omega arith)) (reads-pure _)))
+      reads-bind _ (reads-opening unit t u rented v kinds k (says .taken) (omega (arith, kind-small k (says .taken))))
+      (reads-bind _ (reads-between 1 disksMost 6 6 (length rows) some few (omega arith))
+      (reads-checked _ (reads-alone (eqb k 6) 1 2 (pick (eqb k 5) 2 1) r
+      (record { ranged = λ _. (low, high); said = says .rule }) (omega arith)) (reads-pure _)))
 
-  pub reads-sheet : settingsSheet unit t (sheetBytes r unit t rows) 0
-      ≡ got (table (length rows) r rows) (length (sheetBytes r unit t rows))
+  pub reads-sheet : settingsSheet unit t (sheetBytes k unit t r rows) 0
+      ≡ got (table (length rows) (ruleIn r) rows) (length (sheetBytes k unit t r rows))
   unfolding settingsSheet fields body sheetBytes
   reads-sheet =
       reads-whole
       (reads-bind _ reads-heading
-      (reads-checked _ (reads-times row rowBytes Good reads-row rows (all-rows rows good)) (reads-pure (table (length rows) r rows))))
+      (reads-checked _ (reads-times (row k) (rowBytes k) (Sayable k) (reads-row k) rows
+      (all-sayable k rows (all-rows rows good) (says .marks))) (reads-pure (table (length rows) (ruleIn r) rows))))
 
-module _ (r : Rule) (unit t : ℕ) (cs ls ds : List ℕ) where
-  -- the writer was told this rule and these costs, loads and delays, and the reader finds them in the table
-  pub read-written : (out : List ℕ) (n : ℕ) (after : List ℕ) → unit < 2 ^ 32 → t < 2 ^ 32
-      → Sent (settingsDraft r unit t cs ls ds) out (Length n) after
-      → settingsSheet unit t (take n after) 0 ≡ got (table (length cs) r (rowsOf cs ls ds)) n
-  unfolding toldWritten answerTo
-  read-written out n after u v w =
-      draft-either r unit t cs ls ds
-      (λ e _ none.
-      let g : got tt n ≡ refused e = w .answer ∙ ap (λ d. answerTo d out) none in
-      absurd (let z : _≡_ {A = ℕ} 0 1 = cc in omega arith))
-      (λ k.
-      let b = sent-bytes _ out n after (subst (λ d. Sent d out (Length n) after) (k .is) w) in
-      let f = k .fit in
-      let long = k .long in
-      ap (λ x. settingsSheet unit t x 0) (b .1)
-      ∙ reads-sheet r unit t (rowsOf cs ls ds) u v (f .rented) (omega (arith, f .some)) (omega (arith, f .few)) (k .good)
-      ∙ ap (λ m. got (table m r (rowsOf cs ls ds)) (length (sheetBytes r unit t (rowsOf cs ls ds)))) long
-      ∙ ap (got (table (length cs) r (rowsOf cs ls ds))) (sym (b .0)))
+-- the writer was told this rule and these costs, loads, delays and marks, and the reader finds them in the table
+pub read-sent : (k unit t r : ℕ) (cs ls ds ms out : List ℕ) (n : ℕ) (after : List ℕ) → Says k r (rowsOf cs ls ds ms)
+    → unit < 2 ^ 32 → t < 2 ^ 32 → Sent (sheetDraft k unit t r cs ls ds ms) out (Length n) after
+    → settingsSheet unit t (take n after) 0 ≡ got (table (length cs) (ruleIn r) (rowsOf cs ls ds ms)) n
+read-sent k unit t r cs ls ds ms out n after says u v w =
+    let b = sent-sheet (sheetDraft k unit t r cs ls ds ms) out n after w in
+    let d = drafted k unit t r cs ls ds ms (b .0) (b .1) in
+    let s = d .0 in
+    let f = s .fit in
+    let long = s .long in
+    ap (λ x. settingsSheet unit t x 0) (b .3 ∙ d .1)
+    ∙ reads-sheet k unit t r (rowsOf cs ls ds ms) u v (f .rented) (omega (arith, f .some)) (omega (arith, f .few)) (s .low) (s .high)
+    (s .good) says
+    ∙ ap (λ m. got (table m (ruleIn r) (rowsOf cs ls ds ms)) (length (sheetBytes k unit t r (rowsOf cs ls ds ms)))) long
+    ∙ ap (got (table (length cs) (ruleIn r) (rowsOf cs ls ds ms))) (ap length (sym (d .1)) ∙ sym (b .2))
+
+pub read-written : (r : Rule) (unit t : ℕ) (cs ls ds out : List ℕ) (n : ℕ) (after : List ℕ) → unit < 2 ^ 32 → t < 2 ^ 32
+    → Sent (settingsDraft r unit t cs ls ds) out (Length n) after
+    → settingsSheet unit t (take n after) 0 ≡ got (table (length cs) r (rowsOf cs ls ds (replicate (length cs) 0))) n
+unfolding settingsDraft
+read-written r unit t cs ls ds out n after u v w =
+    read-sent (kindOf r) unit t (ruleNumber r) cs ls ds (replicate (length cs) 0) out n after (says-rule r cs ls ds) u v w
+    ∙ ap (λ x. got (table (length cs) x (rowsOf cs ls ds (replicate (length cs) 0))) n) (rule-number r)
+
+pub read-marked : (unit t r : ℕ) (cs ls ds ms out : List ℕ) (n : ℕ) (after : List ℕ) → unit < 2 ^ 32 → t < 2 ^ 32
+    → Sent (markedDraft unit t r cs ls ds ms) out (Length n) after
+    → settingsSheet unit t (take n after) 0 ≡ got (table (length cs) (ruleIn r) (rowsOf cs ls ds ms)) n
+read-marked unit t r cs ls ds ms out n after = read-sent 6 unit t r cs ls ds ms out n after (says-marked r (rowsOf cs ls ds ms))
 
 -- ---- writing what was read
 
-row-spelt : (s : List ℕ) → Bytes s → (at : ℕ) (r : Row) (e : ℕ) → row s at ≡ got r e → Spelt s at e (rowBytes r) × Good r
-unfolding rowBytes
-row-spelt s b at r e h =
-    let w = row-steps s at r e h in
-    let f = between-spelt s b at 1 costMost 15 15 (w .cost-got) in
-    let g = between-spelt s b (w .second) 0 loadMost 15 15 (w .load-got) in
-    let k = between-spelt s b (w .third) 0 delayMost 15 15 (w .delay-got) in (
-      spelt-join (f .0) (spelt-join (g .0) (k .0)),
-      range-in r (record { cost-low = f .1; cost-high = f .2; load-high = g .2; delay-high = k .2 }),
+row-spelt : (k : ℕ) (s : List ℕ) → Bytes s → (at : ℕ) (r : Row) (e : ℕ) → row k s at ≡ got r e → Spelt s at e (rowBytes k r) × Good r
+unfolding rowBytes mark markBytes
+row-spelt k s b at r e h =
+    let w = row-steps k s at r e h in
+    let d = between-spelt s b (w .third) 0 delayMost 15 15 (w .delay-got) in (
+      spelt-join (between-spelt s b at 1 costMost 15 15 (w .cost-got) .0)
+          (spelt-join (between-spelt s b (w .second) 0 loadMost 15 15 (w .load-got) .0)
+          (spelt-join (d .0) (alone-spelt (eqb k 6) 0 1 0 s b (w .fourth) (d .0 .within) (w .mark-got)))),
+      row-good k s at r e h,
     )
 
--- three lists of rows, put together again
-rows-again : (rs : List Row) → rowsOf (map (λ r. r .cost) rs) (map (λ r. r .load) rs) (map (λ r. r .delay) rs) ≡ rs
+-- four lists of rows, put together again
+rows-again : (rs : List Row)
+    → rowsOf (map (λ r. r .cost) rs) (map (λ r. r .load) rs) (map (λ r. r .delay) rs) (map (λ r. r .mark) rs) ≡ rs
 unfolding rowsOf
 rows-again [] = refl
 rows-again (r ∷ rs) = ap (λ x. r ∷ x) (rows-again rs)
 
--- the rows of a table's disks
-disks-table : (n : ℕ) (r : Rule) (rs : List Row) → length rs ≡ n → diskRows (table n r rs) ≡ rs
-unfolding diskRows table
-disks-table n r rs h = pad-front noDisk disksMost rs n h
-
--- a draft of rows that are in range is their sheet
-draft-rows : (r : Rule) (unit t n : ℕ) (rs : List Row) → 0 < t → 1 ≤ n → n ≤ disksMost → length rs ≡ n → allInRange rs ≡ true
-    → settingsDraft r unit t (costs (table n r rs)) (loads (table n r rs)) (delays (table n r rs)) ≡ sheet (sheetBytes r unit t rs)
-unfolding costs loads delays
-draft-rows r unit t n rs rented some few count good =
+-- a draft of a rule's number and rows that are in range is their sheet
+draft-rows : (k unit t r : ℕ) (rs : List Row) → 0 < t → 1 ≤ length rs → length rs ≤ disksMost → 1 ≤ r → r ≤ 2 → allInRange rs ≡ true
+    → sheetDraft k unit t r (map (λ x. x .cost) rs) (map (λ x. x .load) rs) (map (λ x. x .delay) rs) (map (λ x. x .mark) rs)
+    ≡ sheet (sheetBytes k unit t r rs)
+draft-rows k unit t r rs rented some few low high good =
     let c = length-map rs (λ x. x .cost) in
-    let l = length-map rs (λ x. x .load) in
-    let d = length-map rs (λ x. x .delay) in
-    let fit : ListsFit t (map (λ x. x .cost) rs) (map (λ x. x .load) rs) (map (λ x. x .delay) rs) =
-    record { rented = rented; loads = l ∙ sym c; delays = d ∙ sym c; some = omega arith; few = omega arith } in
-    ap (λ x. settingsDraft r unit t (map (λ y. y .cost) x) (map (λ y. y .load) x) (map (λ y. y .delay) x)) (disks-table n r rs count)
-    ∙ draft-sheet r unit t _ _ _ fit (ap allInRange (rows-again rs) ∙ good) .is
-    ∙ ap (λ x. sheet (sheetBytes r unit t x)) (rows-again rs)
+    let fit : ListsFit t (map (λ x. x .cost) rs) (map (λ x. x .load) rs) (map (λ x. x .delay) rs) (map (λ x. x .mark) rs) =
+    record {
+      rented = rented;
+      level = record {
+        loads = length-map rs (λ x. x .load) ∙ sym c;
+        delays = length-map rs (λ x. x .delay) ∙ sym c;
+        marks = length-map rs (λ x. x .mark) ∙ sym c;
+      };
+      some = omega arith;
+      few = omega arith;
+    } in
+    draft-sheet k unit t r _ _ _ _ fit low high (ap allInRange (rows-again rs) ∙ good) .is
+    ∙ ap (λ x. sheet (sheetBytes k unit t r x)) (rows-again rs)
 
-module _ (unit t : ℕ) (s : List ℕ) (T : Table) (e : ℕ) (b : Bytes s) (h : settingsSheet unit t s 0 ≡ got T e) where
-  -- the draft of an accepted table, with its rule, is the sheet that was read
-  pub write-accepted : settingsDraft (T .rule) unit t (costs T) (loads T) (delays T) ≡ sheet s
-  unfolding table sheetBytes headingBytes
+-- rows in use have marks 0
+marks-zero : (rs : List Row) → All InUse rs → map (λ r. r .mark) rs ≡ replicate (length rs) 0
+unfolding All
+marks-zero [] h = refl
+marks-zero (r ∷ rs) h = ap₂ (λ x xs. x ∷ xs) (h .0) (marks-zero rs (h .1))
+
+module _ (unit t : ℕ) (s : List ℕ) (T : Table) (e k m : ℕ) (b : Bytes s) (h : settingsSheet unit t s 0 ≡ got T e)
+    (o : opening kinds unit t s 0 ≡ got k m) where
+  -- the draft of an accepted table, of the sheet's kind and with the rule's number, is the sheet that was read
+  pub write-accepted : sheetDraft k unit t (ruleNumber (T .rule)) (costs T) (loads T) (delays T) (marks T) ≡ sheet s
+  unfolding table costs loads delays marks sheetBytes headingBytes rule ruleBytes
   write-accepted =
       let w = sheet-steps unit t s T e h in
       let f = w .front in
       let g = w .front-got in
-      let o = opening-spelt unit t kinds s 0 (g .opening-got) b in
+      let i = number-range g in
       let n = between-spelt s b (g .fourth) 1 disksMost 6 6 (g .disks-got) in
-      let p = times-spelt row rowBytes Good s (row-spelt s b) (f .disks) (w .fifth) (w .rows) e (n .0 .within) (w .rows-got) in
-      let kind : g .kind ≡ kindOf (f .rule) = sym (kind-rule (g .kind) (o .1)) ∙ ap kindOf (g .rule-is) in
-      let same : s ≡ sheetBytes (f .rule) unit t (w .rows) =
-      spelt-whole s e _ (w .long) (spelt-join (spelt-join (o .0) (n .0)) (p .0))
-      ∙ ap₂ (λ k m. (openingBytes k unit t ++ encode m) ++ spellAll rowBytes (w .rows)) kind (sym (p .1)) in
-      ap (λ x. settingsDraft (x .rule) unit t (costs x) (loads x) (delays x)) (sym (w .is))
-      ∙ draft-rows (f .rule) unit t (f .disks) (w .rows) (accepted-tenancy unit t s T e h) (n .1) (n .2) (p .1) (rows-all (w .rows) (p .2))
+      let r = alone-spelt (eqb (f .kind) 6) 1 2 (pick (eqb (f .kind) 5) 2 1) s b (g .fifth) (n .0 .within) (g .rule-got) in
+      let p = times-spelt (row (f .kind)) (rowBytes (f .kind)) Good s (row-spelt (f .kind) s b) (f .disks) (w .sixth) (w .rows) e
+      (r .within) (w .rows-got) in
+      let same : s ≡ sheetBytes (f .kind) unit t (g .number) (w .rows) =
+      spelt-whole s e _ (w .long)
+      (spelt-join (spelt-join (opening-spelt unit t kinds s 0 (g .opening-got) b .0) (spelt-join (n .0) r)) (p .0))
+      ∙ ap
+      (λ x. (openingBytes (f .kind) unit t ++ (encode x ++ ruleBytes (f .kind) (g .number))) ++ spellAll (rowBytes (f .kind)) (w .rows))
+      (sym (p .1)) in
+      let number : ruleNumber (T .rule) ≡ g .number =
+      ap (λ x. ruleNumber (x .rule)) (sym (w .is)) ∙ ap ruleNumber (sym (g .rule-is)) ∙ number-rule (g .number) (i .0) (i .1) in
+      ap₂ (λ x y. sheetDraft x unit t y (costs T) (loads T) (delays T) (marks T)) (sym (accepted-kind unit t s T e k m h o)) number
+      ∙ ap (λ x. sheetDraft (f .kind) unit t (g .number) (map (λ y. y .cost) x) (map (λ y. y .load) x) (map (λ y. y .delay) x)
+      (map (λ y. y .mark) x)) (rows-held w)
+      ∙ draft-rows (f .kind) unit t (g .number) (w .rows) (accepted-tenancy unit t s T e h) (omega (arith, n .1, p .1))
+      (omega (arith, n .2, p .1))
+      (i .0) (i .1) (rows-all (w .rows) (p .2))
       ∙ ap sheet (sym same)
 
-  -- with room for it, the writer leaves the same bytes
+  -- of a kind but 6 it is the draft of the rule, the costs, the loads and the delays
+  pub write-unmarked : eqb k 6 ≡ false → settingsDraft (T .rule) unit t (costs T) (loads T) (delays T) ≡ sheet s
+  unfolding settingsDraft costs marks
+  write-unmarked f =
+      let w = sheet-steps unit t s T e h in
+      let used = rows-in-use w (ap (λ x. eqb x 6) (accepted-kind unit t s T e k m h o) ∙ f) in
+      let kind : kindOf (T .rule) ≡ k =
+      ap kindOf (accepted-rule unit t s T e k m h o f) ∙ kind-rule k (opening-kind unit t kinds s 0 o) f in
+      let zeros : replicate (length (costs T)) 0 ≡ marks T =
+      ap (λ x. replicate (length (map (λ y. y .cost) x)) 0) (rows-held w) ∙ ap (λ n. replicate n 0) (length-map (w .rows) (λ y. y .cost))
+      ∙ sym (marks-zero (w .rows) used) ∙ ap (map (λ y. y .mark)) (sym (rows-held w)) in
+      ap₂ (λ x y. sheetDraft x unit t (ruleNumber (T .rule)) (costs T) (loads T) (delays T) y) kind zeros ∙ write-accepted
+
+  -- with room for it, the writer of its kind leaves the same bytes
   pub written-accepted : (out : List ℕ) (r : Written) (after : List ℕ) → length s ≤ length out
-      → Sent (settingsDraft (T .rule) unit t (costs T) (loads T) (delays T)) out r after → (r ≡ Length (length s)) × (after ≡ over s out)
-  unfolding toldWritten answerTo leftBy
-  written-accepted out r after l w =
-      let d = write-accepted in
-      let fits = le-leb _ _ l in (
-        written-injective r (Length (length s)) (w .answer ∙ ap (λ x. answerTo x out) d ∙ pick-true _ _ fits),
-        w .held ∙ ap (λ x. leftBy x out) d ∙ pick-true _ _ fits,
-      )
+      → Sent (sheetDraft k unit t (ruleNumber (T .rule)) (costs T) (loads T) (delays T) (marks T)) out r after
+      → (r ≡ Length (length s)) × (after ≡ over s out)
+  written-accepted out r after l w = sent-room out r after write-accepted l w
+
+  pub written-unmarked : eqb k 6 ≡ false → (out : List ℕ) (r : Written) (after : List ℕ) → length s ≤ length out
+      → Sent (settingsDraft (T .rule) unit t (costs T) (loads T) (delays T)) out r after
+      → (r ≡ Length (length s)) × (after ≡ over s out)
+  written-unmarked f out r after l w = sent-room out r after (write-unmarked f) l w

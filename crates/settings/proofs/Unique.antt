@@ -15,7 +15,7 @@ use Rattle.settings.specs.declared.Table.{Table}
 use Rattle.settings.specs.Table.{noTable}
 use Rattle.settings.specs.Sheet.{settingsSheet}
 use Rattle.settings.specs.Told.{toldBy, Told}
-use Rattle.settings.specs.Draft.{settingsDraft}
+use Rattle.settings.specs.Draft.{settingsDraft, markedDraft}
 
 -- `empty`
 pub empty-unique : (a b : Table) → a ≡ noTable → b ≡ noTable → a ≡ b
@@ -38,7 +38,12 @@ read-unique unit t s n a b p q =
     ap (λ x. record { answer = x; table = a .table }) (told-injective n (b .table) (a .answer) (b .answer) told)
     ∙ ap (λ x. record { answer = b .answer; table = x }) same
 
--- `write`: the answer and the buffer
-pub write-unique : (r : Rule) (unit t : ℕ) (cs ls ds out : List ℕ) (a b : Written) (x y : List ℕ)
-    → Sent (settingsDraft r unit t cs ls ds) out a x → Sent (settingsDraft r unit t cs ls ds) out b y → (a ≡ b) × (x ≡ y)
-write-unique r unit t cs ls ds out a b x y p q = sent-unique (settingsDraft r unit t cs ls ds) out a b x y p q
+-- `write` and `write_marked`: the answer and the buffer
+module _ (unit t : ℕ) (cs ls ds out : List ℕ) (a b : Written) (x y : List ℕ) where
+  pub write-unique : (r : Rule) → Sent (settingsDraft r unit t cs ls ds) out a x → Sent (settingsDraft r unit t cs ls ds) out b y
+      → (a ≡ b) × (x ≡ y)
+  write-unique r p q = sent-unique (settingsDraft r unit t cs ls ds) out a b x y p q
+
+  pub write-marked-unique : (r : ℕ) (ms : List ℕ) → Sent (markedDraft unit t r cs ls ds ms) out a x
+      → Sent (markedDraft unit t r cs ls ds ms) out b y → (a ≡ b) × (x ≡ y)
+  write-marked-unique r ms p q = sent-unique (markedDraft unit t r cs ls ds ms) out a b x y p q

@@ -33,8 +33,8 @@ unfoldable pub toldRow : RowRead → Out Row
 toldRow (Got r at) = got r at
 toldRow (Stopped e) = refused (noteOf e)
 
-unfoldable pub rowWidth : Row → ℕ
-rowWidth r = gate (inRange r) (length (rowBytes r))
+unfoldable pub rowWidth : ℕ → Row → ℕ
+rowWidth k r = gate (inRange r) (length (rowBytes k r))
 
-unfoldable pub rowsWidth : List Row → ℕ
-rowsWidth rs = gate (allInRange rs) (length (spellAll rowBytes rs))
+unfoldable pub rowsWidth : ℕ → List Row → ℕ
+rowsWidth k rs = gate (allInRange rs) (length (spellAll (rowBytes k) rs))

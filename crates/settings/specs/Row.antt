@@ -1,24 +1,26 @@
 -- A disk's row on a settings sheet.
 --     disk, noDisk            a row's values; a row of 0
 --     cost, load, delay       the fields of a row, each within its range
---     row                     the row as it is read
+--     mark                    the mark of a disk, 0 in use or 1 out: a field of kind 6 alone, else 0
+--     row                     the row as it is read from a sheet of a kind
 --     inRange, allInRange     whether the values of a row, and of each row, are in these ranges
---     rowBytes                the row as it is written
+--     markBytes, rowBytes     the mark and the row as they are written on a sheet of a kind
 use Prim.Native.Nat.{ℕ}
 use mathlib.Core.Bool.{Bool, true, _&&_}
 use mathlib.Core.List.{List, [], _∷_, _++_}
-use lib.Dec.{leb}
+use lib.Dec.{eqb, leb}
+use Rattle.basics.specs.Choice.{pick}
 use Rattle.basics.specs.Limits.{costMost, loadMost, delayMost}
 use Rattle.number.specs.Encode.{encode}
 use Rattle.field.specs.Sheet.{Parser, _>>=_, pure}
 use Rattle.field.specs.Field.{inside}
 use Rattle.settings.specs.declared.Row.{Row}
 
-abbrev pub disk : ℕ → ℕ → ℕ → Row
-disk c l d = record { cost = c; load = l; delay = d }
+abbrev pub disk : ℕ → ℕ → ℕ → ℕ → Row
+disk c l d m = record { cost = c; load = l; delay = d; mark = m }
 
 abbrev pub noDisk : Row
-noDisk = disk 0 0 0
+noDisk = disk 0 0 0 0
 
 abbrev pub cost : Parser ℕ
 cost = inside 1 costMost 15
@@ -29,19 +31,27 @@ load = inside 0 loadMost 15
 abbrev pub delay : Parser ℕ
 delay = inside 0 delayMost 15
 
-unfoldable pub row : Parser Row
-row = do
+unfoldable pub mark : ℕ → Parser ℕ
+mark k = pick (eqb k 6) (inside 0 1 15) (pure 0)
+
+unfoldable pub row : ℕ → Parser Row
+row k = do
   c ← cost
   l ← load
   d ← delay
-  pure (disk c l d)
+  m ← mark k
+  pure (disk c l d m)
 
 unfoldable pub inRange : Row → Bool
-inRange r = leb 1 (r .cost) && (leb (r .cost) costMost && (leb (r .load) loadMost && leb (r .delay) delayMost))
+inRange r =
+    leb 1 (r .cost) && (leb (r .cost) costMost && (leb (r .load) loadMost && (leb (r .delay) delayMost && leb (r .mark) 1)))
 
 unfoldable pub allInRange : List Row → Bool
 allInRange [] = true
 allInRange (r ∷ rs) = inRange r && allInRange rs
 
-unfoldable pub rowBytes : Row → List ℕ
-rowBytes r = encode (r .cost) ++ (encode (r .load) ++ encode (r .delay))
+unfoldable pub markBytes : ℕ → ℕ → List ℕ
+markBytes k m = pick (eqb k 6) (encode m) []
+
+unfoldable pub rowBytes : ℕ → Row → List ℕ
+rowBytes k r = encode (r .cost) ++ (encode (r .load) ++ (encode (r .delay) ++ markBytes k (r .mark)))

@@ -1,7 +1,9 @@
--- The settings sheet: kind 1 or 5, unit, tenancy, disk count N, then for each disk its cost, load and delay.
+-- The settings sheet: kind 1, 5 or 6, unit, tenancy, disk count N, with kind 6 the start rule, then for each disk its cost, load and delay,
+-- with kind 6 its mark.
 --     kinds             the kinds of sheets that a unit takes as settings
---     ruleOf            the start rule that a kind says
---     heading           all before the rows: N and the rule
+--     ruleIn            the start rule of a number
+--     rule              the rule's number: a field of kind 6, said by the other kinds
+--     heading           all before the rows: the kind, N and the rule
 --     body              what follows: the rows of N disks, as a table
 --     settingsSheet     the whole sheet, as a unit with a tenancy reads it
 use Prim.Native.Nat.{ℕ}
@@ -19,21 +21,26 @@ use Rattle.settings.specs.Row.{row}
 use Rattle.settings.specs.Table.{table}
 
 abbrev pub kinds : List ℕ
-kinds = 1 ∷ 5 ∷ []
+kinds = 1 ∷ 5 ∷ 6 ∷ []
 
--- kind 5 says the larger of delay and load, kind 1 their sum
-unfoldable pub ruleOf : ℕ → Rule
-ruleOf k = pick (eqb k 5) Larger Sum
+-- 2 is the larger of delay and load, 1 their sum
+unfoldable pub ruleIn : ℕ → Rule
+ruleIn r = pick (eqb r 2) Larger Sum
+
+-- kind 6 has it as a field, 1 or 2; kind 5 says 2, kind 1 says 1
+unfoldable pub rule : ℕ → Parser ℕ
+rule k = pick (eqb k 6) (inside 1 2 15) (pure (pick (eqb k 5) 2 1))
 
 unfoldable pub heading : ℕ → ℕ → Parser Head
 heading unit t = do
   k ← opening kinds unit t
   n ← inside 1 disksMost 6
-  pure (record { disks = n; rule = ruleOf k })
+  r ← rule k
+  pure (record { kind = k; disks = n; rule = ruleIn r })
 
 unfoldable pub body : Head → Parser Table
 body h = do
-  rows ← times (h .disks) row
+  rows ← times (h .disks) (row (h .kind))
   pure (table (h .disks) (h .rule) rows)
 
 -- its fields

@@ -24,7 +24,7 @@ noTable = table 0 Sum []
 unfoldable pub diskRows : Table → List Row
 diskRows t = take (t .disks) (t .rows)
 
--- their costs, loads and delays
+-- their costs, loads, delays and marks
 unfoldable pub costs : Table → List ℕ
 costs t = map (λ r. r .cost) (diskRows t)
 
@@ -33,6 +33,9 @@ loads t = map (λ r. r .load) (diskRows t)
 
 unfoldable pub delays : Table → List ℕ
 delays t = map (λ r. r .delay) (diskRows t)
+
+unfoldable pub marks : Table → List ℕ
+marks t = map (λ r. r .mark) (diskRows t)
 
 -- a table that a unit may hold: the rows of its N disks are in range, and those from N on are 0
 pub record Proper (t : Table) : Type 0 where

@@ -1,4 +1,5 @@
-// The settings sheet: kind 1 or 5, unit, tenancy, disk count N, then for each disk its cost, load and delay.
+// The settings sheet: kind 1, 5 or 6, unit, tenancy, disk count N, with kind 6 the start rule, then for each disk its cost, load and delay,
+// with kind 6 its mark.
 use basics::COST_MOST;
 use basics::DELAY_MOST;
 use basics::DISKS;
@@ -10,25 +11,27 @@ use field::Verdict;
 use field::Written;
 use model::Rule;
 ghost use mathlib.Core.Path.{_≡_};
-ghost use Prim.Native.Nat.{_+_, _≤_};
+ghost use Prim.Native.Nat.{_+_, _≤_, _<_};
 ghost use lib.ListN.{length};
 ghost use Rattle.basics.specs.Limits.{disksMost};
 ghost use Rattle.field.specs.Field.{whole};
 ghost use Rattle.field.specs.Put.{spellAll, Laid};
 ghost use Rattle.field.specs.Send.{Sent};
 ghost use Rattle.field.specs.Told.{told};
-ghost use Rattle.settings.specs.Row.{disk, row, rowBytes};
+ghost use Rattle.settings.specs.Row.{disk, mark, row, markBytes, rowBytes};
 ghost use Rattle.settings.specs.Table.{noTable};
-ghost use Rattle.settings.specs.Sheet.{ruleOf, heading as headingOf, body as bodyOf, settingsSheet};
+ghost use Rattle.settings.specs.Sheet.{ruleIn, rule as ruleOf, heading as headingOf, body as bodyOf, settingsSheet};
 ghost use Rattle.settings.specs.Told.{Told};
-ghost use Rattle.settings.specs.Draft.{rowsOf, kindOf, headingBytes, listsFit, settingsDraft};
+ghost use Rattle.settings.specs.Draft.{rowsOf, kindOf, ruleNumber, ruleBytes, headingBytes, listsFit};
+ghost use Rattle.settings.specs.Draft.{sheetDraft, settingsDraft, markedDraft};
 ghost use Rattle.settings.specs.Parts.{refusedWith, toldHead, toldRow, rowWidth, rowsWidth};
 
-// One disk: the cost of a block, the load when a request comes, the delay.
+// One disk: the cost of a block, the load when the settings were measured, the delay, and its mark: 0 in use, 1 out.
 pub struct Row {
     pub cost: u32,
     pub load: u32,
     pub delay: u32,
+    pub mark: u32,
 }
 
 // N disks, and when they start; the rows from N on are 0.
@@ -44,8 +47,9 @@ pub struct Settings {
     pub table: Table,
 }
 
-// What stands before the rows: N, and the start rule that the kind says.
+// What stands before the rows: the kind, N, and the start rule.
 struct Head {
+    kind: u32,
     disks: u32,
     rule: Rule,
 }
@@ -70,6 +74,7 @@ pub fn empty() -> Table
         cost: 0,
         load: 0,
         delay: 0,
+        mark: 0,
     };
     Table {
         disks: 0,
@@ -89,9 +94,19 @@ fn refuse(fault: Fault) -> Settings
     }
 }
 
-// A row at a place.
-fn row_at(s: &[u8], at: usize) -> RowRead
-    ensures { λ r. ⌜ toldRow r ≡ row (now (s .entry)) at ⌝ }
+// The mark of a disk at a place, a field of kind 6 alone.
+fn mark_at(s: &[u8], at: usize, kind: u32) -> Field
+    ensures { λ r. ⌜ told r ≡ mark kind (now (s .entry)) at ⌝ }
+{
+    if kind == 6 {
+        return field::inside(s, at, 0, 1, Refusal::BadAmount);
+    }
+    Field::Got(0, at)
+}
+
+// A row at a place of a sheet of a kind.
+fn row_at(s: &[u8], at: usize, kind: u32) -> RowRead
+    ensures { λ r. ⌜ toldRow r ≡ row kind (now (s .entry)) at ⌝ }
 {
     match field::inside(s, at, 1, COST_MOST, Refusal::BadAmount) {
         Field::Got(cost, second) => match field::inside(
@@ -108,7 +123,18 @@ fn row_at(s: &[u8], at: usize) -> RowRead
                 DELAY_MOST,
                 Refusal::BadAmount,
             ) {
-                Field::Got(delay, next) => RowRead::Got(Row { cost, load, delay }, next),
+                Field::Got(delay, fourth) => match mark_at(s, fourth, kind) {
+                    Field::Got(mark, next) => RowRead::Got(
+                        Row {
+                            cost,
+                            load,
+                            delay,
+                            mark,
+                        },
+                        next,
+                    ),
+                    Field::Refused(e) => RowRead::Refused(e),
+                },
                 Field::Refused(e) => RowRead::Refused(e),
             },
             Field::Refused(e) => RowRead::Refused(e),
@@ -117,26 +143,42 @@ fn row_at(s: &[u8], at: usize) -> RowRead
     }
 }
 
-// The start rule that a kind says.
-fn rule_of(kind: u32) -> Rule
-    ensures { λ r. ⌜ r ≡ ruleOf kind ⌝ }
+// The start rule of a number.
+fn rule_in(number: u32) -> Rule
+    ensures { λ r. ⌜ r ≡ ruleIn number ⌝ }
 {
-    if kind == 5 {
+    if number == 2 {
         return Rule::Larger;
     }
     Rule::Sum
+}
+
+// The start rule's number at a place, a field of kind 6 alone: the other kinds say it.
+fn rule_at(s: &[u8], at: usize, kind: u32) -> Field
+    ensures { λ r. ⌜ told r ≡ ruleOf kind (now (s .entry)) at ⌝ }
+{
+    if kind == 6 {
+        return field::inside(s, at, 1, 2, Refusal::BadAmount);
+    }
+    if kind == 5 {
+        return Field::Got(2, at);
+    }
+    Field::Got(1, at)
 }
 
 // All before the rows.
 fn heading(s: &[u8], unit: u32, tenancy: u32) -> HeadRead
     ensures { λ r. ⌜ toldHead r ≡ headingOf unit tenancy (now (s .entry)) 0 ⌝ }
 {
-    match field::opening(s, &[1, 5], unit, tenancy) {
+    match field::opening(s, &[1, 5, 6], unit, tenancy) {
         Field::Got(kind, at) => match field::inside(s, at, 1, DISKS as u32, Refusal::OutOfRange) {
-            Field::Got(disks, next) => {
-                let rule = rule_of(kind);
-                HeadRead::Got(Head { disks, rule }, next)
-            }
+            Field::Got(disks, next) => match rule_at(s, next, kind) {
+                Field::Got(number, e) => {
+                    let rule = rule_in(number);
+                    HeadRead::Got(Head { kind, disks, rule }, e)
+                }
+                Field::Refused(e) => HeadRead::Refused(e),
+            },
             Field::Refused(e) => HeadRead::Refused(e),
         },
         Field::Refused(e) => HeadRead::Refused(e),
@@ -156,7 +198,7 @@ fn body(s: &[u8], start: usize, head: Head) -> Settings
     let n = disks as usize;
     let mut i = 0;
     while i < n {
-        match row_at(s, at) {
+        match row_at(s, at, head.kind) {
             RowRead::Got(r, next) => {
                 rows[i] = r;
                 at = next;
@@ -186,9 +228,19 @@ pub fn read(s: &[u8], unit: u32, tenancy: u32) -> Settings
     }
 }
 
+// The bytes of a mark.
+fn mark_width(kind: u32, mark: u32) -> usize
+    ensures { λ r. ⌜ r ≡ length (markBytes kind mark) ⌝ }
+{
+    if kind == 6 {
+        return number::width(mark);
+    }
+    0
+}
+
 // The bytes of a row, or 0 where a value is out of its range.
-fn row_width(cost: u32, load: u32, delay: u32) -> usize
-    ensures { λ r. ⌜ r ≡ rowWidth (disk cost load delay) ⌝ }
+fn row_width(kind: u32, cost: u32, load: u32, delay: u32, mark: u32) -> usize
+    ensures { λ r. ⌜ r ≡ rowWidth kind (disk cost load delay mark) ⌝ }
 {
     if cost < 1 {
         return 0;
@@ -202,19 +254,22 @@ fn row_width(cost: u32, load: u32, delay: u32) -> usize
     if DELAY_MOST < delay {
         return 0;
     }
-    number::width(cost) + number::width(load) + number::width(delay)
+    if 1 < mark {
+        return 0;
+    }
+    number::width(cost) + number::width(load) + number::width(delay) + mark_width(kind, mark)
 }
 
 // The bytes of all rows, or 0 where a value is out of its range.
-fn rows_width(costs: &[u32], loads: &[u32], delays: &[u32]) -> usize
+fn rows_width(kind: u32, costs: &[u32], loads: &[u32], delays: &[u32], marks: &[u32]) -> usize
     requires { ⌜ (length (now loads) ≡ length (now costs)) × (length (now delays) ≡ length (now costs)) ⌝ }
-    requires { ⌜ length (now costs) ≤ disksMost ⌝ }
-    ensures { λ r. ⌜ r ≡ rowsWidth (rowsOf (now (costs .entry)) (now (loads .entry)) (now (delays .entry))) ⌝ }
+    requires { ⌜ (length (now marks) ≡ length (now costs)) × (length (now costs) ≤ disksMost) ⌝ }
+    ensures { λ r. ⌜ r ≡ rowsWidth kind (rowsOf (now (costs .entry)) (now (loads .entry)) (now (delays .entry)) (now (marks .entry))) ⌝ }
 {
     let mut total = 0;
     let mut i = 0;
     while i < costs.len() {
-        let w = row_width(costs[i], loads[i], delays[i]);
+        let w = row_width(kind, costs[i], loads[i], delays[i], marks[i]);
         if w == 0 {
             return 0;
         }
@@ -224,30 +279,170 @@ fn rows_width(costs: &[u32], loads: &[u32], delays: &[u32]) -> usize
     total
 }
 
+// Puts a mark, a field of kind 6 alone, and answers the place after it.
+fn put_mark(kind: u32, mark: u32, out: &mut [u8], at: usize) -> usize
+    requires { ⌜ at + length (markBytes kind mark) ≤ length (now out) ⌝ }
+    ensures { λ r. ⌜ Laid (now (out .entry)) at (markBytes kind mark) (now (out .exit)) r ⌝ }
+{
+    if kind == 6 {
+        return field::put(mark, out, at);
+    }
+    at
+}
+
 // Puts a row at a place and answers the place after it.
-fn put_row(cost: u32, load: u32, delay: u32, out: &mut [u8], at: usize) -> usize
-    requires { ⌜ at + length (rowBytes (disk cost load delay)) ≤ length (now out) ⌝ }
-    ensures { λ r. ⌜ Laid (now (out .entry)) at (rowBytes (disk cost load delay)) (now (out .exit)) r ⌝ }
+fn put_row(
+    kind: u32,
+    cost: u32,
+    load: u32,
+    delay: u32,
+    mark: u32,
+    out: &mut [u8],
+    at: usize,
+) -> usize
+    requires { ⌜ at + length (rowBytes kind (disk cost load delay mark)) ≤ length (now out) ⌝ }
+    ensures { λ r. ⌜ Laid (now (out .entry)) at (rowBytes kind (disk cost load delay mark)) (now (out .exit)) r ⌝ }
 {
     let second = field::put(cost, out, at);
     let third = field::put(load, out, second);
-    field::put(delay, out, third)
+    let fourth = field::put(delay, out, third);
+    put_mark(kind, mark, out, fourth)
 }
 
 // Puts all rows from a place on and answers the place after them.
-fn put_rows(costs: &[u32], loads: &[u32], delays: &[u32], out: &mut [u8], start: usize) -> usize
+fn put_rows(
+    kind: u32,
+    costs: &[u32],
+    loads: &[u32],
+    delays: &[u32],
+    marks: &[u32],
+    out: &mut [u8],
+    start: usize,
+) -> usize
     requires { ⌜ (length (now loads) ≡ length (now costs)) × (length (now delays) ≡ length (now costs)) ⌝ }
-    requires { ⌜ start + length (spellAll rowBytes (rowsOf (now costs) (now loads) (now delays))) ≤ length (now out) ⌝ }
+    requires { ⌜ length (now marks) ≡ length (now costs) ⌝ }
+    requires { ⌜ start + length (spellAll (rowBytes kind) (rowsOf (now costs) (now loads) (now delays) (now marks))) ≤ length (now out) ⌝ }
     ensures { λ r. ⌜ Laid (now (out .entry)) start
-        (spellAll rowBytes (rowsOf (now (costs .entry)) (now (loads .entry)) (now (delays .entry)))) (now (out .exit)) r ⌝ }
+        (spellAll (rowBytes kind) (rowsOf (now (costs .entry)) (now (loads .entry)) (now (delays .entry)) (now (marks .entry))))
+        (now (out .exit)) r ⌝ }
 {
     let mut at = start;
     let mut i = 0;
     while i < costs.len() {
-        at = put_row(costs[i], loads[i], delays[i], out, at);
+        at = put_row(kind, costs[i], loads[i], delays[i], marks[i], out, at);
         i += 1;
     }
     at
+}
+
+// Puts the start rule's number, a field of kind 6 alone, and answers the place after it.
+fn put_rule(kind: u32, rule: u32, out: &mut [u8], at: usize) -> usize
+    requires { ⌜ at + length (ruleBytes kind rule) ≤ length (now out) ⌝ }
+    ensures { λ r. ⌜ Laid (now (out .entry)) at (ruleBytes kind rule) (now (out .exit)) r ⌝ }
+{
+    if kind == 6 {
+        return field::put(rule, out, at);
+    }
+    at
+}
+
+// Puts the fields before the rows and answers the place after them.
+fn put_heading(kind: u32, unit: u32, tenancy: u32, disks: u32, rule: u32, out: &mut [u8]) -> usize
+    requires { ⌜ length (headingBytes kind unit tenancy disks rule) ≤ length (now out) ⌝ }
+    ensures { λ r. ⌜ Laid (now (out .entry)) 0 (headingBytes kind unit tenancy disks rule) (now (out .exit)) r ⌝ }
+{
+    let at = field::put_opening(kind, unit, tenancy, out);
+    let next = field::put(disks, out, at);
+    put_rule(kind, rule, out, next)
+}
+
+// The bytes of the start rule.
+fn rule_width(kind: u32, rule: u32) -> usize
+    ensures { λ r. ⌜ r ≡ length (ruleBytes kind rule) ⌝ }
+{
+    if kind == 6 {
+        return number::width(rule);
+    }
+    0
+}
+
+// Whether there is a tenancy, the lists are of one length, and N is within its range.
+fn lists_fit(tenancy: u32, costs: &[u32], loads: &[u32], delays: &[u32], marks: &[u32]) -> bool
+    ensures { λ r. ⌜ r ≡ listsFit tenancy (now (costs .entry)) (now (loads .entry)) (now (delays .entry)) (now (marks .entry)) ⌝ }
+{
+    if tenancy == 0 {
+        return false;
+    }
+    if loads.len() != costs.len() {
+        return false;
+    }
+    if delays.len() != costs.len() {
+        return false;
+    }
+    if marks.len() != costs.len() {
+        return false;
+    }
+    if costs.len() < 1 {
+        return false;
+    }
+    if DISKS < costs.len() {
+        return false;
+    }
+    true
+}
+
+// Writes the sheet of a kind, which is one byte.
+fn send(
+    kind: u32,
+    unit: u32,
+    tenancy: u32,
+    rule: u32,
+    costs: &[u32],
+    loads: &[u32],
+    delays: &[u32],
+    marks: &[u32],
+    out: &mut [u8],
+) -> Written
+    requires { ⌜ kind < 128 ⌝ }
+    ensures { λ r. ⌜ Sent
+        (sheetDraft kind unit tenancy rule (now (costs .entry)) (now (loads .entry)) (now (delays .entry)) (now (marks .entry)))
+        (now (out .entry)) r (now (out .exit)) ⌝ }
+{
+    if !lists_fit(tenancy, costs, loads, delays, marks) {
+        return Written::Refused(Fault {
+            refusal: Refusal::OutOfRange,
+            place: 0,
+        });
+    }
+    if rule < 1 {
+        return Written::Refused(Fault {
+            refusal: Refusal::BadAmount,
+            place: 0,
+        });
+    }
+    if 2 < rule {
+        return Written::Refused(Fault {
+            refusal: Refusal::BadAmount,
+            place: 0,
+        });
+    }
+    let rows = rows_width(kind, costs, loads, delays, marks);
+    if rows == 0 {
+        return Written::Refused(Fault {
+            refusal: Refusal::BadAmount,
+            place: 0,
+        });
+    }
+    // Kind and N are one byte each.
+    let length = 2 + number::width(unit) + number::width(tenancy) + rule_width(kind, rule) + rows;
+    if out.len() < length {
+        return Written::Refused(Fault {
+            refusal: Refusal::NoRoom,
+            place: length,
+        });
+    }
+    let at = put_heading(kind, unit, tenancy, costs.len() as u32, rule, out);
+    Written::Length(put_rows(kind, costs, loads, delays, marks, out, at))
 }
 
 // The kind that says a rule.
@@ -260,38 +455,17 @@ fn kind_of(rule: Rule) -> u32
     }
 }
 
-// Puts the fields before the rows and answers the place after them.
-fn put_heading(rule: Rule, unit: u32, tenancy: u32, disks: u32, out: &mut [u8]) -> usize
-    requires { ⌜ length (headingBytes rule unit tenancy disks) ≤ length (now out) ⌝ }
-    ensures { λ r. ⌜ Laid (now (out .entry)) 0 (headingBytes rule unit tenancy disks) (now (out .exit)) r ⌝ }
+// The number of a rule.
+fn number_of(rule: Rule) -> u32
+    ensures { λ r. ⌜ r ≡ ruleNumber rule ⌝ }
 {
-    let at = field::put_opening(kind_of(rule), unit, tenancy, out);
-    field::put(disks, out, at)
+    match rule {
+        Rule::Sum => 1,
+        Rule::Larger => 2,
+    }
 }
 
-// Whether there is a tenancy, the lists are of one length, and N is within its range.
-fn lists_fit(tenancy: u32, costs: &[u32], loads: &[u32], delays: &[u32]) -> bool
-    ensures { λ r. ⌜ r ≡ listsFit tenancy (now (costs .entry)) (now (loads .entry)) (now (delays .entry)) ⌝ }
-{
-    if tenancy == 0 {
-        return false;
-    }
-    if loads.len() != costs.len() {
-        return false;
-    }
-    if delays.len() != costs.len() {
-        return false;
-    }
-    if costs.len() < 1 {
-        return false;
-    }
-    if DISKS < costs.len() {
-        return false;
-    }
-    true
-}
-
-// Writes a settings sheet of a start rule and the disks' costs, loads and delays.
+// Writes a settings sheet of a start rule and the disks' costs, loads and delays: all disks are in use.
 pub fn write(
     rule: Rule,
     unit: u32,
@@ -304,27 +478,42 @@ pub fn write(
     ensures { λ r. ⌜ Sent (settingsDraft rule unit tenancy (now (costs .entry)) (now (loads .entry)) (now (delays .entry)))
         (now (out .entry)) r (now (out .exit)) ⌝ }
 {
-    if !lists_fit(tenancy, costs, loads, delays) {
+    if DISKS < costs.len() {
         return Written::Refused(Fault {
             refusal: Refusal::OutOfRange,
             place: 0,
         });
     }
-    let rows = rows_width(costs, loads, delays);
-    if rows == 0 {
-        return Written::Refused(Fault {
-            refusal: Refusal::BadAmount,
-            place: 0,
-        });
-    }
-    // Kind and N are one byte each.
-    let length = 2 + number::width(unit) + number::width(tenancy) + rows;
-    if out.len() < length {
-        return Written::Refused(Fault {
-            refusal: Refusal::NoRoom,
-            place: length,
-        });
-    }
-    let at = put_heading(rule, unit, tenancy, costs.len() as u32, out);
-    Written::Length(put_rows(costs, loads, delays, out, at))
+    let marks = [0u32; DISKS];
+    let n = costs.len();
+    let kind = kind_of(rule);
+    send(
+        kind,
+        unit,
+        tenancy,
+        number_of(rule),
+        costs,
+        loads,
+        delays,
+        &marks[..n],
+        out,
+    )
+}
+
+// Writes a settings sheet of kind 6: the start rule's number, and the disks' costs, loads, delays and marks.
+pub fn write_marked(
+    unit: u32,
+    tenancy: u32,
+    rule: u32,
+    costs: &[u32],
+    loads: &[u32],
+    delays: &[u32],
+    marks: &[u32],
+    out: &mut [u8],
+) -> Written
+    ensures { λ r. ⌜ Sent
+        (markedDraft unit tenancy rule (now (costs .entry)) (now (loads .entry)) (now (delays .entry)) (now (marks .entry)))
+        (now (out .entry)) r (now (out .exit)) ⌝ }
+{
+    send(6, unit, tenancy, rule, costs, loads, delays, marks, out)
 }

@@ -3,7 +3,11 @@ use mathlib.Core.Path.{_≡_, refl, sym, ap, _∙_}
 use mathlib.Core.Bool.{true, false, _&&_}
 use mathlib.Core.List.{List}
 use Prim.Native.Nat.{ℕ, _≤_, _<_}
+use native.Mathlib.Omega.{arith}
 use borrow.Author.Tests.{lt-ltb, le-ltb, eq-eqb, ne-eqb}
+use lib.Dec.{eqb}
+use lib.ListN.{getD}
+use Rattle.basics.specs.Choice.{pick}
 use Rattle.basics.proofs.Choice.{pick-true, pick-false}
 use Rattle.field.specs.Refusal.{noteOf}
 use Rattle.field.specs.declared.Fault.{Fault}
@@ -14,9 +18,10 @@ use Rattle.model.specs.declared.Rule.the-variants.{Sum}
 use Rattle.settings.specs.declared.Settings.{Settings}
 use Rattle.settings.specs.declared.Table.{Table}
 use Rattle.settings.specs.Table.{table, noTable}
-use Rattle.settings.specs.Sheet.{kinds, ruleOf, settingsSheet}
+use Rattle.settings.specs.Row.{noDisk}
+use Rattle.settings.specs.Sheet.{kinds, ruleIn, settingsSheet}
 use Rattle.settings.specs.Told.{toldBy, Told}
-use Rattle.settings.proofs.Accepted.{accepted-rule}
+use Rattle.settings.proofs.Accepted.{accepted-rule, marks-none, none-proper, proper-zero}
 use Rattle.unit.specs.declared.Unit.{Unit}
 use Rattle.unit.specs.Life.{takes, refuses, rent, settled, set, giveBack}
 use Rattle.unit.specs.Unit.{newUnit, tenancyOf, tenanted, withTable, returned}
@@ -29,6 +34,15 @@ new-anew n x e = ap {B = Unit} (λ y. record { number = n; last = 0; rented = fa
 pub new-sum : (n : ℕ) → newUnit n .table .rule ≡ Sum
 unfolding newUnit noTable table
 new-sum n = refl
+
+-- and no disk of it is out
+no-marks : (i : ℕ) → (getD (noTable .rows) i noDisk) .mark ≡ 0
+unfolding noTable table
+no-marks i = ap (λ r. r .mark) (proper-zero none-proper i (omega arith))
+
+pub new-marks : (n i : ℕ) → (getD (newUnit n .table .rows) i noDisk) .mark ≡ 0
+unfolding newUnit
+new-marks n i = no-marks i
 
 module _ (u : Unit) where
   pub tenancy-rented : u .rented ≡ true → tenancyOf u ≡ u .last
@@ -86,9 +100,9 @@ module _ (u : Unit) where
     unfolding settled toldBy
     settled-refused e q = ap (settled u) (sym (ap (λ a. toldBy n a (r .table)) (sym q) ∙ h .answer))
 
-  -- ---- the start rule
+  -- ---- the start rule and the marks
 
-  -- rented or returned, the unit holds the sum
+  -- rented or returned, the unit holds the sum, and no disk is out
   pub rented-sum : (t : ℕ) → tenanted u t .table .rule ≡ Sum
   unfolding tenanted noTable table
   rented-sum t = refl
@@ -97,12 +111,27 @@ module _ (u : Unit) where
   unfolding returned noTable table
   returned-sum = refl
 
-  -- after settings, the rule that the sheet's kind says
-  pub set-rule : (s : List ℕ) {T : Table} {e k m : ℕ} → settingsSheet (u .number) (tenancyOf u) s 0 ≡ got T e
-      → opening kinds (u .number) (tenancyOf u) s 0 ≡ got k m → set u s .unit .table .rule ≡ ruleOf k
-  unfolding set settled takes
-  set-rule s {T} {e} {k} {m} h o =
-      ap (λ (x : Out Table). settled u x .unit .table .rule) h ∙ accepted-rule (u .number) (tenancyOf u) s T e k m h o
+  pub rented-marks : (t i : ℕ) → (getD (tenanted u t .table .rows) i noDisk) .mark ≡ 0
+  unfolding tenanted
+  rented-marks t i = no-marks i
+
+  pub returned-marks : (i : ℕ) → (getD (returned u .table .rows) i noDisk) .mark ≡ 0
+  unfolding returned
+  returned-marks i = no-marks i
+
+  -- after settings of kind 1 or 5, the rule that the kind says, and no disk is out
+  module _ (s : List ℕ) {T : Table} {e k m : ℕ} (h : settingsSheet (u .number) (tenancyOf u) s 0 ≡ got T e)
+      (o : opening kinds (u .number) (tenancyOf u) s 0 ≡ got k m) (f : eqb k 6 ≡ false) where
+    pub set-rule : set u s .unit .table .rule ≡ ruleIn (pick (eqb k 5) 2 1)
+    unfolding set settled takes
+    set-rule =
+        ap (λ (x : Out Table). settled u x .unit .table .rule) h ∙ accepted-rule (u .number) (tenancyOf u) s T e k m h o f
+
+    pub set-marks : (i : ℕ) → (getD (set u s .unit .table .rows) i noDisk) .mark ≡ 0
+    unfolding set settled takes
+    set-marks i =
+        ap (λ (x : Out Table). (getD (settled u x .unit .table .rows) i noDisk) .mark) h
+        ∙ marks-none (u .number) (tenancyOf u) s T e k m h o f i
 
   -- the sheet is read for the tenancy that was found
   pub set-found : (t : ℕ) (s : List ℕ) → t ≡ tenancyOf u → set u s ≡ settled u (settingsSheet (u .number) t s 0)

@@ -19,7 +19,7 @@ use Rattle.settings.specs.Sheet.{settingsSheet}
 use Rattle.settings.proofs.Placed.{sheet-placed as settings-placed}
 use Rattle.request.specs.Request.{Said}
 use Rattle.request.proofs.Placed.{sheet-placed as request-placed}
-use Rattle.planner.specs.Asked.{caseIn, asked, Plans}
+use Rattle.planner.specs.Asked.{isOut, caseIn, asked, Plans}
 use Rattle.planner.proofs.Answers.{Unsent, denied, longer, answered-none}
 use Rattle.unit.specs.declared.Done.{Done}
 use Rattle.unit.specs.declared.Requested.{Requested}
@@ -56,7 +56,8 @@ module _ (u : Unit) (s out : List ℕ) where
   unsent-placed : (f : Fault) → (f .refusal ≡ NoRoom → ⊥) → Unsent (u .number) (tenancyOf u) (askedOf u s) out f → f .place ≤ length s
   unfolding asked
   unsent-placed f o (denied w) =
-      request-placed (u .number) (tenancyOf u) (u .table .disks) s (case-refused (u .table) _ (plans-refused (askedOf u s) w))
+      request-placed (u .number) (tenancyOf u) (u .table .disks) (isOut (u .table)) s
+      (case-refused (u .table) _ (plans-refused (askedOf u s) w))
   unsent-placed f o (longer p i w l e) =
       absurd (o (number-injective (f .refusal) NoRoom (ap (λ (x : Note). x .number) e)))
 

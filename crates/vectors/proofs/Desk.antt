@@ -5,7 +5,7 @@ use lib.ListN.{replicate}
 use Rattle.field.specs.Sheet.{unplaced}
 use Rattle.field.specs.Send.{none, sheet}
 use Rattle.model.specs.declared.Rule.the-variants.{Sum, Larger}
-use Rattle.desk.specs.Desk.{settingsDraftOfBytes, requestDraftOfBytes, PlanRead}
+use Rattle.desk.specs.Desk.{settingsDraftOfBytes, markedDraftOfBytes, requestDraftOfBytes, PlanRead}
 use Rattle.vectors.specs.Text.{bytes}
 use Rattle.vectors.proofs.Opened.{desk-opened}
 use Rattle.vectors.proofs.Plan.{example as plan}
@@ -36,6 +36,20 @@ overlap-broken : settingsDraftOfBytes Larger 7 300 (bytes "04 00 00 00 03") (byt
     ≡ none (unplaced 6)
 unfolding desk-opened
 overlap-broken = refl
+
+-- ---- rp_write_settings_marked
+
+-- the rule by its number, the marks in four bytes each
+pub marked-example : markedDraftOfBytes 7 300 2 (bytes "04 00 00 00") (bytes "03 00 00 00") (bytes "02 00 00 00") (bytes "01 00 00 00")
+    ≡ sheet (bytes "06 07 AC 02 01 02 04 03 02 01")
+unfolding desk-opened
+marked-example = refl
+
+-- a broken list of marks, before the rule
+marked-broken : markedDraftOfBytes 7 300 3 (bytes "04 00 00 00") (bytes "03 00 00 00") (bytes "02 00 00 00") (bytes "01 00 00 00 00")
+    ≡ none (unplaced 6)
+unfolding desk-opened
+marked-broken = refl
 
 -- ---- rp_write_request
 

@@ -2,7 +2,7 @@
 use Prim.Native.Nat.{ℕ, zero, suc, _≤_, _<_}
 use mathlib.Core.Bool.{true, false}
 use mathlib.Core.List.{List, [], _∷_, _++_}
-use mathlib.Core.Path.{_≡_, refl, subst}
+use mathlib.Core.Path.{_≡_, refl, sym, _∙_, subst}
 use native.Mathlib.Omega.{arith}
 use borrow.Author.Tests.{eqb-true, eq-eqb}
 use lib.Dec.{eqb}
@@ -21,6 +21,7 @@ use Rattle.basics.specs.Lists.{All, Rises, listed}
 use Rattle.basics.proofs.Count.{count-here, latest-term}
 use Rattle.field.specs.Sheet.{note, unplaced, got, refused}
 use Rattle.settings.specs.Table.{table, diskRows, costs}
+use Rattle.planner.proofs.Out.{as-named}
 use Rattle.planner.specs.Asked.{startOf, tableCase, PlanFor}
 use Rattle.unit.specs.Request.{Replied}
 use Rattle.console.specs.Bench.{benchInput, Line}
@@ -33,7 +34,7 @@ use Rattle.service.specs.declared.Next.the-variants.{Served}
 use Rattle.service.specs.Shelf.{due, shelfOf, Comes}
 use Rattle.vectors.specs.Text.{bytes}
 use Rattle.vectors.proofs.Opened.{plan-opened, unit-opened, program-opened}
-use Rattle.vectors.proofs.Settings.{three}
+use Rattle.vectors.proofs.Settings.{three, three-in-use}
 use Rattle.plan.specs.Plan.{Plan}
 use Rattle.vectors.proofs.Request.{copies, example as request, aged-copies, aged-example}
 use Rattle.vectors.proofs.Plan.{plan}
@@ -43,8 +44,8 @@ use Rattle.vectors.proofs.Figures.{join, starts, same-case as figure-ca
 
 -- the settings and the request are the case of P6
 same-case : asked paper 0 copies-p6 ≡ tableCase (table 3 Sum three) 0 copies
-unfolding unit-opened tableCase startOf starts starting diskRows costs join
-same-case = figure-case paper refl 0 copies-p6
+unfolding unit-opened startOf starts starting diskRows costs join
+same-case = figure-case paper refl 0 copies-p6 ∙ sym (as-named 3 Sum three three-in-use 0 copies)
 
 -- R is 9, the disks are 0 0 1 1, the short set is 0 1 2 3
 plan-example : PlanFor (tableCase (table 3 Sum three) 0 copies) plan
@@ -77,8 +78,8 @@ request-example = record {
 -- ---- at an age
 
 same-aged : asked paper 3 copies-p7 ≡ tableCase (table 3 Sum three) 3 aged-copies
-unfolding unit-opened tableCase startOf starts starting diskRows costs join
-same-aged = figure-case paper refl 3 copies-p7
+unfolding unit-opened startOf starts starting diskRows costs join
+same-aged = figure-case paper refl 3 copies-p7 ∙ sym (as-named 3 Sum three three-in-use 3 aged-copies)
 
 abbrev aged-plan : Plan
 aged-plan = record { time = 6; disks = 0 ∷ 1 ∷ 1 ∷ []; short = 0 ∷ 1 ∷ 2 ∷ [] }

@@ -12,6 +12,7 @@ mod Program
 mod Figures
 mod Example
 mod Overlap
+mod Out
 mod Engine
 mod RuledOut
 mod Places

@@ -8,9 +8,10 @@ use Rattle.field.specs.Field.{taken, number, between, ascending, kind, addresse
 use Rattle.field.specs.Put.{spellAll, hasRoom, openingBytes}
 use Rattle.basics.specs.Buffer.{paste, over}
 use Rattle.field.specs.Send.{toldWritten, answerTo, leftBy}
-use Rattle.settings.specs.Draft.{rowsOf, kindOf, headingBytes as settingsHeadingBytes, sheetBytes, listsFit, settingsDraft}
-use Rattle.settings.specs.Row.{row, inRange, allInRange, rowBytes}
-use Rattle.settings.specs.Sheet.{ruleOf, heading as settingsHeading, body as settingsBody, fields, settingsSheet}
+use Rattle.settings.specs.Draft.{rowsOf, kindOf, ruleNumber, ruleBytes, headingBytes as settingsHeadingBytes, sheetBytes, listsFit}
+use Rattle.settings.specs.Draft.{sheetDraft, settingsDraft}
+use Rattle.settings.specs.Row.{mark, row, inRange, allInRange, markBytes, rowBytes}
+use Rattle.settings.specs.Sheet.{ruleIn, rule, heading as settingsHeading, body as settingsBody, fields, settingsSheet}
 use Rattle.basics.specs.Padded.{padTo}
 use Rattle.settings.specs.Table.{table, noTable}
 use Rattle.settings.specs.Told.{tableOf}
@@ -18,16 +19,17 @@ use Rattle.mask.specs.Has.{has}
 use Rattle.basics.specs.Count.{bit, sum, count}
 use Rattle.request.specs.Disks.{maskOf, disksBelow, disksOf}
 use Rattle.request.specs.Draft.{blockBytes, ageBytes, headingBytes, requestBytes, aged, headed, checked, requestDraft}
-use Rattle.request.specs.Request.{lastDisk, block, opening as requestOpening, age, heading, body, requestSheet}
+use Rattle.request.specs.Request.{lastDisk, used, block, opening as requestOpening, age, heading, body, requestSheet}
 use Rattle.plan.specs.Draft.{planNumbers, planBytes, planDraft, counted as countedPlan}
 use Rattle.plan.specs.Plan.{ifAny, timeOf, sizeOf, listsOf, planFields, planSheet}
 use Rattle.plan.specs.Receive.{ifRoom, heads, disksLeft, shortLeft}
 use Rattle.plan.specs.Told.{toldPlan}
 use Rattle.unit.specs.Life.{takes, refuses, rent, settled, set, giveBack}
 use Rattle.planner.specs.Answered.{draftOf}
-use Rattle.planner.specs.Asked.{caseIn, Plans, asked as askedCase}
+use Rattle.model.specs.Case.{inUse}
+use Rattle.planner.specs.Asked.{isOut, caseIn, Plans, asked as askedCase}
 use Rattle.unit.specs.Unit.{newUnit, tenancyOf, tenanted, returned}
-use Rattle.desk.specs.Desk.{settingsDraftOfBytes, tenancyWith, requestDraftOfBytes, planIfRoom, setLeft}
+use Rattle.desk.specs.Desk.{brokenRows, settingsDraftOfBytes, markedDraftOfBytes, tenancyWith, requestDraftOfBytes, planIfRoom, setLeft}
 use Rattle.lent.specs.Numbers.{valueOf, bytesOf, firstNumbers, numbers, broken}
 use Rattle.lent.specs.Packed.{packPlan, packRefused, writerAnswer, readerAnswer}
 use Rattle.line.specs.Text.{digit, digitsBy, decimal, spaced, pair, hex}
@@ -53,14 +55,14 @@ field-opened = Unit
 
 unfoldable pub settings-opened : Type 0
 unfolding
-    field-opened rowsOf kindOf ruleOf settingsHeadingBytes sheetBytes listsFit settingsDraft row inRange allInRange rowBytes
-    settingsHeading settingsBody fields settingsSheet padTo table noTable tableOf
+    field-opened rowsOf kindOf ruleNumber ruleBytes settingsHeadingBytes sheetBytes listsFit sheetDraft settingsDraft mark row inRange
+    allInRange markBytes rowBytes ruleIn rule settingsHeading settingsBody fields settingsSheet padTo table noTable tableOf
 settings-opened = Unit
 
 unfoldable pub request-opened : Type 0
 unfolding
     field-opened has bit sum count maskOf disksBelow disksOf blockBytes ageBytes headingBytes requestBytes aged headed checked requestDraft
-    lastDisk block requestOpening age heading body requestSheet
+    lastDisk used block requestOpening age heading body requestSheet
 request-opened = Unit
 
 unfoldable pub plan-opened : Type 0
@@ -71,13 +73,14 @@ plan-opened = Unit
 
 unfoldable pub unit-opened : Type 0
 unfolding
-    settings-opened request-opened takes refuses rent settled set giveBack caseIn askedCase Plans draftOf newUnit tenancyOf
+    settings-opened request-opened takes refuses rent settled set giveBack isOut inUse caseIn askedCase Plans draftOf newUnit tenancyOf
     tenanted returned
 unit-opened = Unit
 
 unfoldable pub desk-opened : Type 0
 unfolding
-    settings-opened request-opened plan-opened settingsDraftOfBytes tenancyWith requestDraftOfBytes planIfRoom setLeft
+    settings-opened request-opened plan-opened brokenRows settingsDraftOfBytes markedDraftOfBytes tenancyWith requestDraftOfBytes
+    planIfRoom setLeft
     valueOf bytesOf firstNumbers numbers broken packPlan packRefused writerAnswer readerAnswer
 desk-opened = Unit
 

@@ -1,13 +1,14 @@
 -- Where the wait overlaps the queue: a unit with settings of kind 5 plans with the larger of delay and load, and by the sum after kind 1.
 --     starts-larger, starts-sum, starts-aged     when the disks start by each rule, and by the larger at an age
 --     answer-larger, answer-aged                 the figures P13 and P14, as sheets
+--     by-sum, one-optimal                        one block with one copy, by the sum
 --     answer-one, answer-one-sum                 one block by each rule: the figure P15 and two microseconds more
-use Prim.Native.Nat.{ℕ, zero, suc, _-_, _≤_, _<_}
+use Prim.Native.Nat.{ℕ, zero, suc, _-_, _^_, _≤_, _<_}
 use mathlib.Core.Bool.{Bool, true}
 use mathlib.Core.List.{List, [], _∷_, _++_, map}
-use mathlib.Core.Path.{_≡_, refl, subst}
+use mathlib.Core.Path.{_≡_, refl, sym, _∙_, subst}
 use native.Mathlib.Omega.{arith}
-use borrow.Author.Tests.{eq-eqb}
+use borrow.Author.Tests.{eqb-true, eq-eqb}
 use lib.Dec.{eqb}
 use lib.ListN.{length, getD, replicate}
 use Rattle.basics.specs.Choice.{pick}
@@ -15,7 +16,7 @@ use Rattle.basics.specs.Count.{bit, gate, sum, count, any, latest}
 use Rattle.basics.specs.Lists.{Rises, listed}
 use Rattle.basics.proofs.Count.{count-here, count-some, count-most, latest-term}
 use Rattle.mask.specs.Has.{has}
-use Rattle.mask.proofs.Has.{has-place}
+use Rattle.mask.proofs.Bits.{has-pow}
 use Rattle.model.specs.declared.Rule.the-variants.{Sum, Larger}
 use Rattle.model.specs.Assignment.{reads, Valid}
 use Rattle.model.specs.Capacity.{endTime, capacity}
@@ -32,6 +33,7 @@ use Rattle.settings.specs.Sheet.{settingsSheet}
 use Rattle.settings.specs.Table.{table, diskRows, costs}
 use Rattle.settings.proofs.Accepted.{accepted-proper}
 use Rattle.plan.specs.Plan.{Plan}
+use Rattle.planner.proofs.Out.{as-named}
 use Rattle.planner.specs.Asked.{startOf, tableCase, PlanFor, asked as askedCase}
 use Rattle.planner.proofs.Plannable.{asked-plannable, plan-for}
 use Rattle.unit.specs.Request.{Replied}
@@ -39,7 +41,7 @@ use Rattle.console.specs.Bench.{benchInput, Line}
 use Rattle.line.specs.Text.{ascii}
 use Rattle.vectors.specs.Text.{bytes}
 use Rattle.vectors.proofs.Opened.{unit-opened, plan-opened, program-opened}
-use Rattle.vectors.proofs.Settings.{overlap, queued, busy, read-overlap, read-queued}
+use Rattle.vectors.proofs.Settings.{overlap, queued, busy, busy-in-use, read-overlap, read-queued}
 use Rattle.vectors.proofs.Unit.{overlapped, summed}
 use Rattle.vectors.proofs.Figures.{join, starts, same-case as figure-case, copies-p7, P13, copies-p14, P14, copies-p15, P15}
 
@@ -62,7 +64,7 @@ starts-aged = refl
 -- ---- by the larger
 
 -- a plan of the model is the plan of a request that was accepted with such settings
-plan-of : (sheet request : List ℕ) {t : Table} {m : Case} {i j : ℕ} → settingsSheet 7 300 sheet 0 ≡ got t i
+pub plan-of : (sheet request : List ℕ) {t : Table} {m : Case} {i j : ℕ} → settingsSheet 7 300 sheet 0 ≡ got t i
     → askedCase 7 300 t request ≡ got m j → (p : Plan) → length (p .disks) ≡ m .blocks → length (p .short) ≤ m .blocks
     → Rises 0 (m .blocks - 1) (p .short) → Optimal m (p .time) (λ b. getD (p .disks) b 0) (listed (p .short)) → PlanFor m p
 plan-of sheet request {t} {m} {i} {j} s r p d k l o =
@@ -76,8 +78,8 @@ abbrev plan-larger : Plan
 plan-larger = record { time = 11; disks = 0 ∷ 0 ∷ 1 ∷ []; short = 0 ∷ 1 ∷ 2 ∷ [] }
 
 same-larger : asked overlapping 0 copies-p7 ≡ tableCase (table 3 Larger busy) 0 (3 ∷ 3 ∷ 3 ∷ [])
-unfolding unit-opened tableCase startOf starts starting diskRows costs join
-same-larger = figure-case overlapping refl 0 copies-p7
+unfolding unit-opened startOf starts starting diskRows costs join
+same-larger = figure-case overlapping refl 0 copies-p7 ∙ sym (as-named 3 Larger busy busy-in-use 0 (3 ∷ 3 ∷ 3 ∷ []))
 
 larger-planned : PlanFor (tableCase (table 3 Larger busy) 0 (3 ∷ 3 ∷ 3 ∷ [])) plan-larger
 unfolding unit-opened tableCase Rises
@@ -103,8 +105,8 @@ abbrev plan-aged : Plan
 plan-aged = record { time = 10; disks = 0 ∷ 0 ∷ []; short = 0 ∷ 1 ∷ [] }
 
 same-aged : asked overlapping 2 copies-p14 ≡ tableCase (table 3 Larger busy) 2 (3 ∷ 3 ∷ [])
-unfolding unit-opened tableCase startOf starts starting diskRows costs join
-same-aged = figure-case overlapping refl 2 copies-p14
+unfolding unit-opened startOf starts starting diskRows costs join
+same-aged = figure-case overlapping refl 2 copies-p14 ∙ sym (as-named 3 Larger busy busy-in-use 2 (3 ∷ 3 ∷ []))
 
 aged-planned : PlanFor (tableCase (table 3 Larger busy) 2 (3 ∷ 3 ∷ [])) plan-aged
 unfolding unit-opened tableCase Rises
@@ -126,18 +128,18 @@ answer-aged = record {
 abbrev pub request-one : List ℕ
 request-one = bytes "02 07 AC 02 01 01 00"
 
--- block 0 on disk 0, with so much time
-abbrev plan-one : ℕ → Plan
-plan-one t = record { time = t; disks = 0 ∷ []; short = 0 ∷ [] }
+-- block 0 on a disk, with so much time
+abbrev pub plan-one : ℕ → ℕ → Plan
+plan-one d t = record { time = t; disks = d ∷ []; short = 0 ∷ [] }
 
 same-one : asked overlapping 0 copies-p15 ≡ tableCase (table 3 Larger busy) 0 (1 ∷ [])
-unfolding unit-opened tableCase startOf starts starting diskRows costs join
-same-one = figure-case overlapping refl 0 copies-p15
+unfolding unit-opened startOf starts starting diskRows costs join
+same-one = figure-case overlapping refl 0 copies-p15 ∙ sym (as-named 3 Larger busy busy-in-use 0 (1 ∷ []))
 
-one-planned : PlanFor (tableCase (table 3 Larger busy) 0 (1 ∷ [])) (plan-one 7)
+one-planned : PlanFor (tableCase (table 3 Larger busy) 0 (1 ∷ [])) (plan-one 0 7)
 unfolding unit-opened tableCase Rises
 one-planned =
-    plan-of overlap request-one read-overlap refl (plan-one 7) refl (omega arith) (omega arith, omega arith, tt)
+    plan-of overlap request-one read-overlap refl (plan-one 0 7) refl (omega arith) (omega arith, omega arith, tt)
     (subst (λ (m : Case). Optimal m 7 (λ b. getD (0 ∷ []) b 0) (listed (0 ∷ []))) same-one P15)
 
 -- one block of cost 4 on a disk of load 3 and delay 2: R is 7
@@ -146,84 +148,87 @@ pub answer-one : Replied overlapped request-one (replicate 10 0xEE) (record { an
 unfolding unit-opened plan-opened
 answer-one = record {
   same = refl;
-  reply = record { plan = got (plan-one 7) 7; plans = (plan-one 7, one-planned, refl); sent = record { answer = refl; held = refl } };
+  reply = record { plan = got (plan-one 0 7) 7; plans = (plan-one 0 7, one-planned, refl); sent = record { answer = refl; held = refl } };
 }
 
 -- the bench takes settings of kind 5 too
 bench-one : Line (benchInput (bytes "07 AC 02 0E" ++ overlap ++ bytes "07" ++ request-one) 0) (ascii "plan 7 300 1 7 | 0 | 0\n")
 unfolding program-opened
-bench-one = record { plan = got (plan-one 7) 7; plans = (plan-one 7, one-planned, refl); says = refl }
+bench-one = record { plan = got (plan-one 0 7) 7; plans = (plan-one 0 7, one-planned, refl); says = refl }
 
 -- ---- by the sum
 
--- disk 0 starts at 5, and holds the only copy of block 0
-abbrev by-sum : Case
-by-sum = spelled (1 ∷ []) (4 ∷ 3 ∷ 10 ∷ []) (5 ∷ 10 ∷ 0 ∷ [])
+-- the same disks by the sum, and one block
+abbrev pub by-sum : ℕ → Case
+by-sum mask = spelled (mask ∷ []) (4 ∷ 3 ∷ 10 ∷ []) (5 ∷ 10 ∷ 0 ∷ [])
 
-same-sum : by-sum ≡ tableCase (table 3 Sum busy) 0 (1 ∷ [])
-unfolding unit-opened tableCase startOf starting left diskRows costs
-same-sum = refl
+-- disk d holds its only copy, and ends with it at R: that is the plan
+module _ (d R : ℕ) (on : d < 3) (soon : (n : ℕ) → 0 < n → R ≤ endTime (by-sum (2 ^ d) .start d) (by-sum (2 ^ d) .cost d) n)
+    (there-ends : response (by-sum (2 ^ d)) (λ b. getD (d ∷ []) b 0) ≡ R)
+    (no-room : room 3 1 (by-sum (2 ^ d) .copy) (capacityAt (by-sum (2 ^ d)) (R - 1)) (listed (0 ∷ [])) ≡ 0) where
+  abbrev one : Case
+  one = by-sum (2 ^ d)
+
+  on-disk : (a : ℕ → ℕ) → Schedule one a → a 0 ≡ d
+  unfolding Schedule Valid
+  on-disk a v = eqb-true (a 0) d (sym (has-pow d (a 0)) ∙ v 0 (omega arith) .1)
+
+  not-sooner : (a : ℕ → ℕ) → Schedule one a → R ≤ response one a
+  unfolding endOf response reads
+  not-sooner a v =
+      omega (
+        arith,
+        latest-term 3 (endOf one a) d on,
+        soon (reads 1 a d) (count-here 1 (λ b. eqb (a b) d) 0 (omega arith) (eq-eqb (a 0) d (on-disk a v))),
+      )
+
+  there-reads : Schedule one (λ b. getD (d ∷ []) b 0)
+  unfolding Schedule Valid
+  there-reads zero h = (on, has-pow d d ∙ eq-eqb d d refl)
+  there-reads (suc b) h = absurd (omega arith)
+
+  one-member : size 1 (listed (0 ∷ [])) ≡ 1
+  unfolding size count sum bit listed
+  one-member = refl
+
+  pub one-optimal : Optimal one R (λ b. getD (d ∷ []) b 0) (listed (0 ∷ []))
+  unfolding HasTime Before Greatest NoShorter Sub size
+  one-optimal =
+      record {
+        least = record { lower = not-sooner; reached = (_, there-reads, there-ends) };
+        first = record { holds = (there-reads, there-ends); none = none };
+        short = record { greatest = λ S. omega (arith, no-room, one-member, count-most 1 S); least = within };
+      }
+    where
+      none : (a : ℕ → ℕ) → HasTime one R a → Before 1 a (λ b. getD (d ∷ []) b 0) → ⊥
+      none a h (zero, _, _, l) = omega (arith, on-disk a (h .0))
+      none a h (suc b, l, _, _) = omega arith
+
+      within : (S : ℕ → Bool) → Greatest 3 1 (one .copy) (capacityAt one (R - 1)) S → Sub 1 (listed (0 ∷ [])) S
+      within S g zero l t =
+          let s = count-some 1 S (omega (arith, g (listed (0 ∷ [])), no-room, one-member)) in
+          let z : s .0 ≡ 0 = omega (arith, s .1) in
+          subst (λ (i : ℕ). S i ≡ true) z (s .2)
+      within S g (suc b) l t = absurd (omega arith)
+
+-- disk 0 starts at 5, and holds the only copy of block 0
+same-sum : by-sum 1 ≡ tableCase (table 3 Sum busy) 0 (1 ∷ [])
+unfolding unit-opened startOf starting left diskRows costs
+same-sum = sym (as-named 3 Sum busy busy-in-use 0 (1 ∷ []))
 
 nine : (n : ℕ) → 0 < n → 9 ≤ endTime 5 4 n
 unfolding endTime
 nine zero h = absurd (omega arith)
 nine (suc n) h = omega arith
 
-on-zero : (a : ℕ → ℕ) → Schedule by-sum a → a 0 ≡ 0
-unfolding Schedule Valid
-on-zero a v = omega (arith, has-place 1 1 (a 0) (omega arith) (v 0 (omega arith) .1))
+sum-optimal : Optimal (by-sum 1) 9 (λ b. getD (0 ∷ []) b 0) (listed (0 ∷ []))
+unfolding endOf response reads endTime count sum bit latest room touches capacityAt capacity pick has listed any gate
+sum-optimal = one-optimal 0 9 (omega arith) nine refl refl
 
-in-nine : (a : ℕ → ℕ) → Schedule by-sum a → 9 ≤ response by-sum a
-unfolding endOf response reads
-in-nine a v =
-    omega (
-      arith,
-      latest-term 3 (endOf by-sum a) 0 (omega arith),
-      nine (reads 1 a 0) (count-here 1 (λ b. eqb (a b) 0) 0 (omega arith) (eq-eqb (a 0) 0 (on-zero a v))),
-    )
-
-there-reads : Schedule by-sum (λ b. getD (0 ∷ []) b 0)
-unfolding Schedule Valid has
-there-reads zero h = (omega arith, refl)
-there-reads (suc b) h = absurd (omega arith)
-
-there-ends : response by-sum (λ b. getD (0 ∷ []) b 0) ≡ 9
-unfolding endOf response reads endTime count sum bit latest
-there-ends = refl
-
--- one microsecond sooner disk 0 has no room
-no-room : room 3 1 (by-sum .copy) (capacityAt by-sum 8) (listed (0 ∷ [])) ≡ 0
-unfolding room touches capacityAt capacity pick has listed any gate sum
-no-room = refl
-
-one-member : size 1 (listed (0 ∷ [])) ≡ 1
-unfolding size count sum bit listed
-one-member = refl
-
-sum-optimal : Optimal by-sum 9 (λ b. getD (0 ∷ []) b 0) (listed (0 ∷ []))
-unfolding HasTime Before Greatest NoShorter Sub size
-sum-optimal =
-    record {
-      least = record { lower = in-nine; reached = (_, there-reads, there-ends) };
-      first = record { holds = (there-reads, there-ends); none = none };
-      short = record { greatest = λ S. omega (arith, no-room, one-member, count-most 1 S); least = within };
-    }
-  where
-    none : (a : ℕ → ℕ) → HasTime by-sum 9 a → Before 1 a (λ b. getD (0 ∷ []) b 0) → ⊥
-    none a h (zero, _, _, l) = omega arith
-    none a h (suc b, l, _, _) = omega arith
-
-    within : (S : ℕ → Bool) → Greatest 3 1 (by-sum .copy) (capacityAt by-sum 8) S → Sub 1 (listed (0 ∷ [])) S
-    within S g zero l t =
-        let s = count-some 1 S (omega (arith, g (listed (0 ∷ [])), no-room, one-member)) in
-        let z : s .0 ≡ 0 = omega (arith, s .1) in
-        subst (λ (i : ℕ). S i ≡ true) z (s .2)
-    within S g (suc b) l t = absurd (omega arith)
-
-sum-planned : PlanFor (tableCase (table 3 Sum busy) 0 (1 ∷ [])) (plan-one 9)
+sum-planned : PlanFor (tableCase (table 3 Sum busy) 0 (1 ∷ [])) (plan-one 0 9)
 unfolding unit-opened tableCase Rises
 sum-planned =
-    plan-of queued request-one read-queued refl (plan-one 9) refl (omega arith) (omega arith, omega arith, tt)
+    plan-of queued request-one read-queued refl (plan-one 0 9) refl (omega arith) (omega arith, omega arith, tt)
     (subst (λ (m : Case). Optimal m 9 (λ b. getD (0 ∷ []) b 0) (listed (0 ∷ []))) same-sum sum-optimal)
 
 -- after settings of kind 1 for the same disks the block starts at 5: R is 9
@@ -232,5 +237,5 @@ pub answer-one-sum : Replied summed request-one (replicate 10 0xEE) (record { an
 unfolding unit-opened plan-opened
 answer-one-sum = record {
   same = refl;
-  reply = record { plan = got (plan-one 9) 7; plans = (plan-one 9, sum-planned, refl); sent = record { answer = refl; held = refl } };
+  reply = record { plan = got (plan-one 0 9) 7; plans = (plan-one 0 9, sum-planned, refl); sent = record { answer = refl; held = refl } };
 }

@@ -25,6 +25,7 @@ use Rattle.lent.specs.Packed.{readerAnswer}
 use Rattle.vectors.specs.Text.{bytes}
 use Rattle.vectors.proofs.Opened.{settings-opened, request-opened, plan-opened, desk-opened}
 use Rattle.vectors.proofs.Field as field
+use Rattle.vectors.proofs.Request.{in-use, first-out, all-out}
 use Rattle.vectors.proofs.Settings as settings
 
 -- what tells two answers apart
@@ -74,20 +75,24 @@ eleven-tells-the-buffer w =
 -- ---- request
 
 -- no settings yet: 10 at the byte after the tenancy
-ten-placed : requestSheet 7 300 0 (bytes "02 07 AC 02 00") 0 ≡ refused (note 10 4)
+ten-placed : requestSheet 7 300 0 in-use (bytes "02 07 AC 02 00") 0 ≡ refused (note 10 4)
 unfolding request-opened
 ten-placed = refl
 
-ten-at-the-tenancy : requestSheet 7 300 0 (bytes "02 07 AC 02 00") 0 ≡ refused (note 10 2) → ⊥
+ten-at-the-tenancy : requestSheet 7 300 0 in-use (bytes "02 07 AC 02 00") 0 ≡ refused (note 10 2) → ⊥
 ten-at-the-tenancy h = let z = placesDiffer (note 10 4) (note 10 2) ten-placed h in omega (arith, z)
 
 -- disk 1 again: 8 at the second
-eight-placed : requestSheet 7 300 3 (bytes "02 07 AC 02 01 02 01 01") 0 ≡ refused (note 8 7)
+eight-placed : requestSheet 7 300 3 in-use (bytes "02 07 AC 02 01 02 01 01") 0 ≡ refused (note 8 7)
 unfolding request-opened
 eight-placed = refl
 
-eight-at-the-number-before : requestSheet 7 300 3 (bytes "02 07 AC 02 01 02 01 01") 0 ≡ refused (note 8 6) → ⊥
+eight-at-the-number-before : requestSheet 7 300 3 in-use (bytes "02 07 AC 02 01 02 01 01") 0 ≡ refused (note 8 6) → ⊥
 eight-at-the-number-before h = let z = placesDiffer (note 8 7) (note 8 6) eight-placed h in omega (arith, z)
+
+-- 20 at the copy count
+twenty-at-k : requestSheet 7 300 3 first-out (bytes "02 07 AC 02 01 01 00") 0 ≡ refused (note 20 5) → ⊥
+twenty-at-k h = let z = placesDiffer (note 20 6) (note 20 5) all-out h in omega (arith, z)
 
 -- nine disks, one of them at N: too many bits come first
 too-many-bits : requestDraft 2 7 300 0 8 (511 ∷ []) ≡ none (unplaced 6)

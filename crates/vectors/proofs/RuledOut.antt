@@ -16,6 +16,7 @@ use Rattle.model.specs.declared.Rule.{Rule}
 use Rattle.model.specs.declared.Rule.the-variants.{Sum, Larger}
 use Rattle.settings.specs.declared.Table.{Table}
 use Rattle.settings.specs.Draft.{settingsDraft}
+use Rattle.settings.specs.Row.{disk}
 use Rattle.settings.specs.Sheet.{settingsSheet}
 use Rattle.settings.specs.Table.{table, noTable}
 use Rattle.request.specs.Draft.{requestDraft}
@@ -43,6 +44,7 @@ use Rattle.vectors.proofs.Plan as plan
 use Rattle.vectors.proofs.Unit as unit
 use Rattle.vectors.proofs.Example.{request-example, request-aged}
 use Rattle.vectors.proofs.Overlap.{request-one, answer-one, answer-one-sum}
+use Rattle.vectors.proofs.Out.{request-out, answer-out}
 use Rattle.vectors.proofs.Engine.{copies, costs, starts, blank, plan-p5}
 use Rattle.vectors.proofs.Desk as desk
 use Rattle.vectors.proofs.Call as call
@@ -101,25 +103,37 @@ kind-five-read-as-the-sum : settingsSheet 7 300 settings.overlap 0 ≡ got (tabl
 unfolding desk-opened ruled byRule
 kind-five-read-as-the-sum h = let z : _≡_ {A = ℕ} 2 1 = apart ruled settings.read-overlap h in omega (arith, z)
 
+mark-two-accepted : settingsSheet 7 300 (bytes "06 07 AC 02 01 01 04 03 02 02") 0 ≡ got (table 1 Sum (disk 4 3 2 2 ∷ [])) 10 → ⊥
+unfolding desk-opened numbered judged by byte
+mark-two-accepted h = let z : _≡_ {A = ℕ} 15 0 = apart numbered settings.mark-two h in omega (arith, z)
+
 kind-five-written-as-one : settingsDraft Larger 7 300 (4 ∷ 3 ∷ 10 ∷ []) (3 ∷ 2 ∷ 0 ∷ []) (2 ∷ 8 ∷ 0 ∷ []) ≡ sheet settings.queued → ⊥
 unfolding desk-opened numbered judged by byte
 kind-five-written-as-one h = let z : _≡_ {A = ℕ} 5 1 = apart (byte 0) settings.draft-overlap h in omega (arith, z)
 
 -- ---- request
 
-no-copies-read-as-six : requestSheet 7 300 3 (bytes "02 07 AC 02 01 00") 0 ≡ refused (note 6 5) → ⊥
+no-copies-read-as-six : requestSheet 7 300 3 request.in-use (bytes "02 07 AC 02 01 00") 0 ≡ refused (note 6 5) → ⊥
 unfolding desk-opened numbered judged by byte
 no-copies-read-as-six h = let z : _≡_ {A = ℕ} 7 6 = apart numbered request.no-copies h in omega (arith, z)
 
-sixteen-and-eight-exchanged : requestSheet 7 300 3 (bytes "02 07 AC 02 01 01 03") 0 ≡ refused (note 8 6) → ⊥
+sixteen-and-eight-exchanged : requestSheet 7 300 3 request.in-use (bytes "02 07 AC 02 01 01 03") 0 ≡ refused (note 8 6) → ⊥
 unfolding desk-opened numbered judged by byte
 sixteen-and-eight-exchanged h = let z : _≡_ {A = ℕ} 16 8 = apart numbered request.disk-at-n h in omega (arith, z)
+
+twenty-before-eight : requestSheet 7 300 3 (λ _. true) (bytes "02 07 AC 02 01 02 01 01") 0 ≡ refused (note 20 7) → ⊥
+unfolding desk-opened numbered judged by byte
+twenty-before-eight h = let z : _≡_ {A = ℕ} 8 20 = apart numbered request.out-after-eight h in omega (arith, z)
+
+twenty-while-one-is-in-use : requestSheet 7 300 3 request.first-out (bytes "02 07 AC 02 01 02 00 01") 0 ≡ refused (note 20 7) → ⊥
+unfolding desk-opened numbered judged by byte
+twenty-while-one-is-in-use h = let z : _≡_ {A = ℕ} 0 20 = apart numbered request.one-in-use h in omega (arith, z)
 
 no-copies-written-as-six : requestDraft 2 7 300 0 3 (3 ∷ 0 ∷ []) ≡ none (unplaced 6) → ⊥
 unfolding desk-opened numbered judged by byte
 no-copies-written-as-six h = let z : _≡_ {A = ℕ} 1007 1006 = apart (byte 0) request.draft-no-copies h in omega (arith, z)
 
-ten-after-the-age : requestSheet 7 300 0 (bytes "04 07 AC 02") 0 ≡ refused (note 1 4) → ⊥
+ten-after-the-age : requestSheet 7 300 0 request.in-use (bytes "04 07 AC 02") 0 ≡ refused (note 1 4) → ⊥
 unfolding desk-opened numbered judged by byte
 ten-after-the-age h = let z : _≡_ {A = ℕ} 10 1 = apart numbered request.ten-before-the-age h in omega (arith, z)
 
@@ -220,6 +234,21 @@ sum-as-larger : (after : List ℕ)
 unfolding desk-opened numbered judged by byte
 sum-as-larger after w h =
     let z : _≡_ {A = ℕ} 9 (getD after 5 0) = ap (λ (l : List ℕ). getD l 5 0) (request-unique answer-one-sum w .1) in omega (arith, z, h)
+
+-- one block on disks 0 and 2, of which disk 0 is out
+module _ (after : List ℕ)
+    (w : Replied unit.marked request-out (replicate 10 0xEE) (record { answer = Length 9; unit = unit.marked }) after) where
+  out-sheet : bytes "03 07 AC 02 01 0A 02 01 00 EE" ≡ after
+  out-sheet = request-unique answer-out w .1
+
+  out-disk-read : getD after 6 0 ≡ 0 → ⊥
+  unfolding desk-opened numbered judged by byte
+  out-disk-read h = let z : _≡_ {A = ℕ} 2 (getD after 6 0) = ap (λ (l : List ℕ). getD l 6 0) out-sheet in omega (arith, z, h)
+
+  -- with the capacity of disk 0 the block is not short
+  out-disk-counted : getD after 7 0 ≡ 0 → ⊥
+  unfolding desk-opened numbered judged by byte
+  out-disk-counted h = let z : _≡_ {A = ℕ} 1 (getD after 7 0) = ap (λ (l : List ℕ). getD l 7 0) out-sheet in omega (arith, z, h)
 
 rented-as-13 : rent unit.ready 299 ≡ record { verdict = refusedWith (unplaced 13); unit = unit.ready } → ⊥
 unfolding desk-opened numbered judged by byte

@@ -1,7 +1,8 @@
--- The unit's life, call by call: unit 7, tenancy 300, document 01's settings. Its plans stand in Example and Overlap.
+-- The unit's life, call by call: unit 7, tenancy 300, document 01's settings. Its plans stand in Example, Overlap and Out.
 --     let-out      rented, nothing set yet
 --     ready        with document 01's settings
 --     overlapped, summed     with settings of kind 5, and of kind 1 for the same disks
+--     marked       with settings of kind 6 for them, disk 0 out
 --     back         given back
 use mathlib.Core.Bool.{true, false}
 use mathlib.Core.Path.{_≡_, refl}
@@ -14,7 +15,7 @@ use Rattle.unit.specs.declared.Unit.{Unit as Shelf}
 use Rattle.unit.specs.Life.{accepted, refused, rent, set, giveBack}
 use Rattle.unit.specs.Unit.{newUnit, tenancyOf}
 use Rattle.vectors.proofs.Opened.{unit-opened}
-use Rattle.vectors.proofs.Settings.{example as settings, three, overlap, queued, busy}
+use Rattle.vectors.proofs.Settings.{example as settings, three, overlap, queued, busy, marked as marking, pulled}
 
 abbrev pub let-out : Shelf
 let-out = record { number = 7; last = 300; rented = true; table = noTable }
@@ -27,6 +28,9 @@ overlapped = record { number = 7; last = 300; rented = true; table = table 3 Lar
 
 abbrev pub summed : Shelf
 summed = record { number = 7; last = 300; rented = true; table = table 3 Sum busy }
+
+abbrev pub marked : Shelf
+marked = record { number = 7; last = 300; rented = true; table = table 3 Sum pulled }
 
 abbrev pub back : Shelf
 back = record { number = 7; last = 300; rented = false; table = noTable }
@@ -67,6 +71,11 @@ rent-next-overlapped : rent (giveBack overlapped 300 .unit) 301 ≡ rent (newUni
 unfolding unit-opened
 rent-next-overlapped = refl
 
+-- nor its marks
+rent-next-marked : rent (giveBack marked 300 .unit) 301 ≡ rent (newUnit 7) 301
+unfolding unit-opened
+rent-next-marked = refl
+
 -- ---- settings
 
 -- not rented
@@ -89,10 +98,23 @@ rules : map (λ u. u .table .rule) (newUnit 7 ∷ overlapped ∷ set overlapped 
 unfolding unit-opened
 rules = refl
 
--- another kind changes nothing
-pub set-kind-six : set overlapped (6 ∷ drop 1 queued) ≡ record { verdict = refused (unplaced 3); unit = overlapped }
+-- kind 6 too; kinds 1 and 5 after it put all disks in use
+set-marked : set ready marking ≡ record { verdict = accepted; unit = marked }
 unfolding unit-opened
-set-kind-six = refl
+set-marked = refl
+
+pub set-sum-after : set marked queued ≡ record { verdict = accepted; unit = summed }
+unfolding unit-opened
+set-sum-after = refl
+
+set-overlap-after : set marked overlap ≡ record { verdict = accepted; unit = overlapped }
+unfolding unit-opened
+set-overlap-after = refl
+
+-- another kind changes nothing
+pub set-kind-nine : set overlapped (9 ∷ drop 1 queued) ≡ record { verdict = refused (unplaced 3); unit = overlapped }
+unfolding unit-opened
+set-kind-nine = refl
 
 -- ---- give_back
 

@@ -1,7 +1,7 @@
 //! Inputs of the bench program.
 
 use crate::inputs::damage::{self, FAULTS};
-use crate::inputs::fields::{bytes, request, settings, with_length, Field, Role};
+use crate::inputs::fields::{bytes, marked, request, settings, with_length, Field, Role};
 use crate::inputs::whole::{self, Case};
 use crate::model::{Row, Rule, Table};
 use crate::random::Random;
@@ -45,13 +45,14 @@ impl Parts {
     }
 }
 
-/// The document's sample, a wider input of the same kind, a request with an age, and settings with the larger.
+/// The document's sample, a wider input of the same kind, a request with an age, settings with the larger, a disk out.
 fn examples() -> Vec<Parts> {
     let row = |cost, load, delay| Row { cost, load, delay };
     let case = |rule, rows: &[Row], copies: &[u64]| Case {
         table: Table {
             rule,
             rows: rows.to_vec(),
+            out: 0,
         },
         copies: copies.to_vec(),
     };
@@ -64,12 +65,15 @@ fn examples() -> Vec<Parts> {
     let small = case(Rule::Sum, &small, &[3, 3, 3, 6]);
     let wide = case(Rule::Sum, &wide, &[7, 2, 5]);
     let aged = case(Rule::Sum, &aged, &[3, 1]);
+    let mut pulled = case(Rule::Larger, &larger, &[3, 2]);
+    pulled.table.out = 1;
     let larger = case(Rule::Larger, &larger, &[3, 1]);
     vec![
         Parts::new(7, 300, None, &small),
         Parts::new(70_000, 4_000_000_000, None, &wide),
         Parts::new(7, 300, Some(299), &aged),
         Parts::new(7, 300, Some(99), &larger),
+        Parts::new(7, 300, None, &pulled),
     ]
 }
 
@@ -128,8 +132,19 @@ pub fn input(seed: u64, index: u64) -> Vec<u8> {
 
 fn parts(random: &mut Random, family: fn(&mut Random) -> Case) -> Parts {
     let case = family(random);
+    let case = whole::some_out(random, case);
+    any_kind(random, &case, 1)
+}
+
+/// With settings of any kind that can say the table, for a tenancy of that or above.
+fn any_kind(random: &mut Random, case: &Case, least: u32) -> Parts {
     let age = whole::age(random, &case.table.rows);
-    Parts::new(random.number(), random.number().max(1), age, &case)
+    let (unit, tenancy) = (random.number(), random.number().max(least));
+    let mut parts = Parts::new(unit, tenancy, age, case);
+    if random.once_in(4) {
+        parts.settings = marked(unit, tenancy, &case.table);
+    }
+    parts
 }
 
 /// So many faults, in the sheets or in the row of all fields.
@@ -139,8 +154,8 @@ fn damaged(random: &mut Random, faults: u32) -> Vec<u8> {
     } else {
         whole::small(random)
     };
-    let age = whole::age(random, &case.table.rows);
-    let mut parts = Parts::new(random.number(), random.number(), age, &case);
+    let case = whole::some_out(random, case);
+    let mut parts = any_kind(random, &case, 0);
     let outer = random.within(0, faults);
     for _ in outer..faults {
         let which = random.index(2);

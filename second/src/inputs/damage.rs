@@ -58,12 +58,14 @@ pub const FAULTS: [Fault; 21] = [
 /// The highest value of a field's range; disks and blocks by the widest range there is.
 fn highest(role: Role) -> u32 {
     match role {
-        Role::Kind => 5,
+        Role::Kind => 6,
         Role::Unit | Role::Tenancy | Role::Age | Role::AnyNumber => u32::MAX,
         Role::DiskCount => MOST_DISKS,
         Role::Cost => MOST_COST,
         Role::Load => MOST_LOAD,
         Role::Delay => MOST_DELAY,
+        Role::StartRule => 2,
+        Role::Mark => 1,
         Role::BlockCount | Role::SetSize => MOST_BLOCKS,
         Role::CopyCount => MOST_COPIES,
         Role::Disk => MOST_DISKS - 1,

@@ -5,10 +5,10 @@ use crate::hex;
 use crate::inputs::damage;
 use crate::inputs::fields;
 use crate::inputs::whole::{self, Case};
-use crate::model::{Plan, Row, Rule, Table, MOST_COST, MOST_DELAY, MOST_LOAD};
+use crate::model::{holds, Plan, Row, Rule, MOST_COST, MOST_DELAY, MOST_LOAD};
 use crate::planner;
 use crate::random::Random;
-use crate::sheets::{write_request, write_settings, Wanted};
+use crate::sheets::{write_request, Wanted};
 
 /// What a writer is told: the numbers after the room, then the lists.
 #[derive(Clone)]
@@ -115,13 +115,18 @@ fn changed(told: &Told, changes: &[Change]) -> Vec<String> {
 
 /// The settings writer with every value at and past the ends of its range, and lists that are unequal or broken.
 fn settings_lines(writer: &'static str) -> Vec<String> {
-    let told = Told {
+    let marked = writer == "marked";
+    let mut told = Told {
         writer,
         numbers: vec![700, 300],
         lists: [[4, 300], [0, 70_000], [1, 0]]
             .map(|list| list_of(&list, 4))
             .to_vec(),
     };
+    if marked {
+        told.numbers.push(2);
+        told.lists.push(list_of(&[0, 1], 4));
+    }
     let mut changes = vec![
         set_number(1, 0),
         resize_all(0, 4),
@@ -129,7 +134,11 @@ fn settings_lines(writer: &'static str) -> Vec<String> {
         resize_all(65, 4),
     ];
     changes.extend((1..4).map(shorten_all));
-    for (list, most) in [MOST_COST, MOST_LOAD, MOST_DELAY].into_iter().enumerate() {
+    if marked {
+        changes.extend([0, 1, 2, 3, u32::MAX].map(|rule| set_number(2, rule)));
+    }
+    let most = [MOST_COST, MOST_LOAD, MOST_DELAY, 1];
+    for (list, most) in most.into_iter().enumerate().take(told.lists.len()) {
         let most = u64::from(most);
         changes.extend([1, 4].map(|bytes| lengthen(list, bytes)));
         changes.extend([1, 4].map(|bytes| shorten(list, bytes)));
@@ -224,6 +233,7 @@ pub fn systematic() -> Vec<String> {
     [
         settings_lines("settings"),
         settings_lines("larger"),
+        settings_lines("marked"),
         request_lines(),
         plan_lines(),
     ]
@@ -267,32 +277,51 @@ fn room(random: &mut Random, length: usize) -> usize {
     }
 }
 
+/// A settings writer's line; rows, marks, rule and lists may be spoilt.
 fn settings(random: &mut Random) -> String {
-    let (unit, tenancy) = (random.number(), tenancy(random));
-    let mut table = case(random).table;
+    let case = case(random);
+    let table = whole::some_out(random, case).table;
+    let mut rows = table.rows;
     for _ in 0..*random.pick(&[0, 0, 1, 2]) {
-        spoil_rows(random, &mut table.rows);
+        spoil_rows(random, &mut rows);
     }
-    let length = write_settings(unit, tenancy, &table, usize::MAX).map_or(20, |sheet| sheet.len());
-    let room = room(random, length);
-    let Table { rule, rows } = table;
-    let list = |value: fn(&Row) -> u32| {
-        rows.iter()
-            .flat_map(|row| value(row).to_le_bytes())
-            .collect()
+    let list = |value: fn(&Row) -> u32| -> Vec<u8> {
+        let values = rows.iter().map(|row| value(row).to_le_bytes());
+        values.flatten().collect()
     };
-    let mut lists: [Vec<u8>; 3] = [
-        list(|row| row.cost),
-        list(|row| row.load),
-        list(|row| row.delay),
-    ];
-    spoil_lists(random, &mut lists);
-    let [costs, loads, delays] = lists.map(|list| hex::word(&list));
-    let writer = match rule {
-        Rule::Sum => "settings",
-        Rule::Larger => "larger",
+    let mut told = Told {
+        writer: match table.rule {
+            Rule::Sum => "settings",
+            Rule::Larger => "larger",
+        },
+        numbers: vec![random.number(), tenancy(random)],
+        lists: vec![
+            list(|row| row.cost),
+            list(|row| row.load),
+            list(|row| row.delay),
+        ],
     };
-    format!("{writer} {room} {unit} {tenancy} {costs} {loads} {delays}")
+    if table.out != 0 || random.once_in(4) {
+        told.writer = "marked";
+        let rule = if table.rule == Rule::Sum { 1 } else { 2 };
+        let spoilt = [0, 3, random.number()];
+        told.numbers.push(if random.once_in(12) {
+            *random.pick(&spoilt)
+        } else {
+            rule
+        });
+        let mut marks: Vec<u64> = (0..rows.len())
+            .map(|disk| holds(table.out, disk % 64).into())
+            .collect();
+        if !marks.is_empty() && random.once_in(8) {
+            let place = random.index(marks.len());
+            marks[place] = *random.pick(&[1, 2, 256, 1 << 31, u64::from(u32::MAX)]);
+        }
+        told.lists.push(list_of(&marks, 4));
+    }
+    let length = told.length();
+    spoil_lists(random, &mut told.lists);
+    told.line(room(random, length))
 }
 
 fn spoil_rows(random: &mut Random, disks: &mut Vec<Row>) {
@@ -333,11 +362,12 @@ fn spoil_rows(random: &mut Random, disks: &mut Vec<Row>) {
 }
 
 /// Lists of unequal length, or broken inside a number, one or all of them.
-fn spoil_lists(random: &mut Random, lists: &mut [Vec<u8>; 3]) {
+fn spoil_lists(random: &mut Random, lists: &mut [Vec<u8>]) {
+    let list = random.index(lists.len());
     let cut = random.index(6);
     match random.within(1, 20) {
-        1 => lists[random.index(3)].resize(4 * cut, 1),
-        2 => lists[random.index(3)].resize(cut, 1),
+        1 => lists[list].resize(4 * cut, 1),
+        2 => lists[list].resize(cut, 1),
         3 => lists
             .iter_mut()
             .for_each(|list| list.truncate(list.len().saturating_sub(cut))),

@@ -1,6 +1,6 @@
 //! Sheets as lists of fields, so that each field can be damaged.
 
-use crate::model::{disks_of, Plan, Rule, Table};
+use crate::model::{disks_of, holds, Plan, Rule, Table};
 use crate::number::shortest;
 
 /// What a field is, which decides its range.
@@ -14,6 +14,8 @@ pub enum Role {
     Cost,
     Load,
     Delay,
+    StartRule,
+    Mark,
     BlockCount,
     CopyCount,
     Disk,
@@ -57,15 +59,34 @@ fn head(kind: u32, unit: u32, tenancy: u32) -> Vec<Field> {
     ]
 }
 
-/// Of kind 1 or 5, by the rule.
+/// Of kind 1 or 5, by the rule; of kind 6 if a disk is out.
 pub fn settings(unit: u32, tenancy: u32, table: &Table) -> Vec<Field> {
-    let kind = if table.rule == Rule::Sum { 1 } else { 5 };
+    match (table.out, table.rule) {
+        (0, Rule::Sum) => table_of_kind(1, unit, tenancy, table),
+        (0, Rule::Larger) => table_of_kind(5, unit, tenancy, table),
+        _ => marked(unit, tenancy, table),
+    }
+}
+
+/// Of kind 6.
+pub fn marked(unit: u32, tenancy: u32, table: &Table) -> Vec<Field> {
+    table_of_kind(6, unit, tenancy, table)
+}
+
+fn table_of_kind(kind: u32, unit: u32, tenancy: u32, table: &Table) -> Vec<Field> {
     let mut fields = head(kind, unit, tenancy);
     fields.push(Field::new(Role::DiskCount, table.rows.len() as u32));
-    for row in &table.rows {
+    if kind == 6 {
+        let rule = if table.rule == Rule::Sum { 1 } else { 2 };
+        fields.push(Field::new(Role::StartRule, rule));
+    }
+    for (disk, row) in table.rows.iter().enumerate() {
         fields.push(Field::new(Role::Cost, row.cost));
         fields.push(Field::new(Role::Load, row.load));
         fields.push(Field::new(Role::Delay, row.delay));
+        if kind == 6 {
+            fields.push(Field::new(Role::Mark, holds(table.out, disk).into()));
+        }
     }
     fields
 }

@@ -47,11 +47,18 @@ impl Walk {
     }
 
     fn settings(&mut self) -> Option<()> {
-        self.head()?;
-        for _ in 0..self.number("N")? {
+        let marked = self.head()? == 6;
+        let disks = self.number("N")?;
+        if marked {
+            self.number("rule")?;
+        }
+        for _ in 0..disks {
             self.number("cost")?;
             self.number("load")?;
             self.number("delay")?;
+            if marked {
+                self.number("mark")?;
+            }
         }
         self.fields.push(("end", self.at));
         Some(())
@@ -140,11 +147,13 @@ fn expected(table: &[(&str, &[u32])], others: &[(u32, &str)]) -> Names {
 const HEAD: [(&str, &[u32]); 3] = [("kind", &[3]), ("unit", &[4]), ("tenancy", &[5])];
 
 fn settings_names() -> Names {
-    let rows: [(&str, &[u32]); 4] = [
+    let rows: [(&str, &[u32]); 6] = [
         ("N", &[6]),
+        ("rule", &[15]),
         ("cost", &[15]),
         ("load", &[15]),
         ("delay", &[15]),
+        ("mark", &[15]),
     ];
     expected(&[&HEAD[..], &rows].concat(), &[(9, "end")])
 }
@@ -154,8 +163,8 @@ fn request_names() -> Names {
         ("age", &[]),
         ("Q", &[6]),
         ("k", &[6, 7]),
-        ("first copy", &[16]),
-        ("later copy", &[8, 16]),
+        ("first copy", &[16, 20]),
+        ("later copy", &[8, 16, 20]),
     ];
     let others = [(9, "end"), (10, "after the tenancy"), (11, "room")];
     expected(&[&HEAD[..], &blocks].concat(), &others)
@@ -395,31 +404,39 @@ fn settings_faults(words: &[String]) -> Faults {
     if words[3] == "0" {
         faults.push((6, "tenancy"));
     }
-    let lengths: BTreeSet<usize> = words[4..7]
+    let (rule, lists) = match &words[0][..] {
+        "marked" => (&words[4][..], &words[5..9]),
+        _ => ("1", &words[4..7]),
+    };
+    let lengths: BTreeSet<usize> = lists
         .iter()
         .map(|list| hex::read(list).unwrap().len())
         .collect();
     if lengths.len() > 1 {
         faults.push((6, "unequal"));
     }
-    let lists: Vec<Option<Vec<u64>>> = words[4..7].iter().map(|list| entries(list, 4)).collect();
-    if lists.iter().any(Option::is_none) {
+    let lists: Option<Vec<Vec<u64>>> = lists.iter().map(|list| entries(list, 4)).collect();
+    let Some(lists) = lists else {
         faults.push((6, "broken"));
-    }
-    let [Some(costs), Some(loads), Some(delays)] = &lists[..] else {
         return faults;
     };
-    match costs.len() {
+    match lists[0].len() {
         0 => faults.push((6, "N low")),
         65.. => faults.push((6, "N high")),
         _ => {}
     }
-    for ((&cost, &load), &delay) in costs.iter().zip(loads).zip(delays) {
+    if !["1", "2"].contains(&rule) {
+        faults.push((15, "rule"));
+    }
+    let shortest = lists.iter().map(Vec::len).min().unwrap();
+    for disk in 0..shortest {
+        let values: Vec<u64> = lists.iter().map(|list| list[disk]).collect();
         let row = [
-            (cost == 0, "cost low"),
-            (cost > 1_000_000, "cost high"),
-            (load > 100_000_000, "load"),
-            (delay > 1_000_000, "delay"),
+            (values[0] == 0, "cost low"),
+            (values[0] > 1_000_000, "cost high"),
+            (values[1] > 100_000_000, "load"),
+            (values[2] > 1_000_000, "delay"),
+            (values.get(3).is_some_and(|mark| *mark > 1), "mark"),
         ];
         faults.extend(
             row.iter()
@@ -543,6 +560,20 @@ fn the_writers_are_refused_for_every_fault() {
     ];
     check_writer("settings", settings_faults, &settings, &together);
     check_writer("larger", settings_faults, &settings, &together);
+    let marked = [&settings[..], &["rule", "mark"]].concat();
+    let more = [
+        ("tenancy", "rule"),
+        ("unequal", "rule"),
+        ("N low", "rule"),
+        ("N high", "rule"),
+        ("rule", "cost low"),
+        ("rule", "mark"),
+        ("cost low", "mark"),
+        ("delay", "mark"),
+        ("mark", "cost high"),
+    ];
+    let together = [&together[..], &more].concat();
+    check_writer("marked", settings_faults, &marked, &together);
     let request = [
         "kind", "tenancy", "broken", "age", "N low", "N high", "Q", "no bits", "bits", "bit at N",
     ];

@@ -1,7 +1,7 @@
 //! Streams of calls for the shelf program.
 
 use crate::inputs::damage::{self, Fault, FAULTS};
-use crate::inputs::fields::{bytes, request, settings, with_length, Field, Role};
+use crate::inputs::fields::{bytes, marked, request, settings, with_length, Field, Role};
 use crate::inputs::whole::{self, Case};
 use crate::model::{disks_of, Row, Rule, Table};
 use crate::number::shortest;
@@ -116,7 +116,12 @@ impl Hire {
 
     fn settings(&mut self, random: &mut Random) -> Vec<u8> {
         let case = whole::any(random);
-        let mut fields = settings(self.number, self.last, &case.table);
+        let case = whole::some_out(random, case);
+        let mut fields = if random.once_in(4) {
+            marked(self.number, self.last, &case.table)
+        } else {
+            settings(self.number, self.last, &case.table)
+        };
         maybe_damage(random, &mut fields);
         let sheet = bytes(&fields);
         self.case = case;
@@ -152,8 +157,31 @@ impl Hire {
         match random.within(1, 8) {
             1 => self.case.copies.clone(),
             2 => whole::any(random).copies,
-            _ => fitting_copies(random, self.unit.disks().max(1)),
+            _ => self.fitting_copies(random),
         }
+    }
+
+    /// A few blocks with copies on the disks there are, in use or, more seldom, all out.
+    fn fitting_copies(&self, random: &mut Random) -> Vec<u64> {
+        let disks = self.unit.disks().max(1);
+        let mask = u64::MAX >> (64 - disks);
+        let left = disks_of(mask & !self.unit.out());
+        let any = left.is_empty() || random.once_in(4);
+        let mut copies = Vec::new();
+        for _ in 0..random.within(0, 12) {
+            let wide = random.next() & random.next() & mask;
+            let block = if (1..=8).contains(&wide.count_ones()) {
+                wide
+            } else {
+                1 << random.within(0, disks - 1)
+            };
+            copies.push(if any || block & !self.unit.out() != 0 {
+                block
+            } else {
+                whole::with_one_of(random, block, &left)
+            });
+        }
+        copies
     }
 
     /// A block and one of its disks, another disk, or numbers out of range; the request may be damaged or an old one.
@@ -266,28 +294,13 @@ fn maybe_damage(random: &mut Random, fields: &mut Vec<Field>) {
     }
 }
 
-/// A few blocks with copies on the disks there are.
-fn fitting_copies(random: &mut Random, disks: u32) -> Vec<u64> {
-    let mask = u64::MAX >> (64 - disks);
-    let mut copies = Vec::new();
-    for _ in 0..random.within(0, 12) {
-        let wide = random.next() & random.next() & mask;
-        let block = if (1..=8).contains(&wide.count_ones()) {
-            wide
-        } else {
-            1 << random.within(0, disks - 1)
-        };
-        copies.push(block);
-    }
-    copies
-}
-
 /// Every truncation, and every fault at every field, of one whole hire, and of the sheets sent in each state.
 pub fn systematic() -> Vec<Stream> {
     let whole = example();
     let all = bytes(&whole);
     let mut streams = in_each_state();
     streams.extend(one_after_another());
+    streams.extend(with_disks_out());
     streams.extend((0..=all.len()).map(|length| vec![all[..length].to_vec()]));
     for fault in FAULTS {
         for place in 0..whole.len() {
@@ -302,6 +315,9 @@ pub fn systematic() -> Vec<Stream> {
 /// All damaged sheets while new, rented, set, and returned.
 fn in_each_state() -> Vec<Stream> {
     let (table, read) = example_sheets();
+    let mut one_out = example_table(Rule::Larger);
+    one_out.rows.truncate(2);
+    one_out.out = 1;
     let calls = |kind: &[u8], sheet: &[Field]| -> Stream {
         let damaged = damage::everywhere(sheet);
         damaged
@@ -328,6 +344,7 @@ fn in_each_state() -> Vec<Stream> {
         calls(&[3, 99], &nothing),
         calls(&[2], &table),
         calls(&[2], &settings(700, 300, &example_table(Rule::Larger))),
+        calls(&[2], &marked(700, 300, &one_out)),
         rooms(&read),
         rooms(&nothing),
         calls(&[5, 0, 0], &read),
@@ -363,10 +380,16 @@ fn tables() -> Vec<Table> {
     let wide = vec![row(4, 90, 60), row(5, 60, 90), row(2, 70, 70)];
     let mut tables = Vec::new();
     for rule in [Rule::Sum, Rule::Larger] {
-        tables.extend([&narrow, &wide].map(|rows| Table {
-            rule,
-            rows: rows.clone(),
-        }));
+        for (rows, out) in [
+            (&narrow, 0),
+            (&wide, 0),
+            (&narrow, 1),
+            (&wide, 2),
+            (&wide, 7),
+        ] {
+            let rows = rows.clone();
+            tables.push(Table { rule, rows, out });
+        }
     }
     tables
 }
@@ -375,7 +398,7 @@ fn tables() -> Vec<Table> {
 fn one_after_another() -> Vec<Stream> {
     let asked = |tenancy| {
         let mut calls: Stream = Vec::new();
-        for age in [None, Some(0), Some(29), Some(30), Some(31), Some(91)] {
+        for age in [None, Some(30), Some(91)] {
             for copies in [&[3, 3, 1][..], &[3, 6, 4, 1], &[]] {
                 let sheet = bytes(&with_length(&request(700, tenancy, age, copies)));
                 calls.push([vec![3, 99], sheet.clone()].concat());
@@ -421,7 +444,48 @@ fn one_after_another() -> Vec<Stream> {
 fn example_table(rule: Rule) -> Table {
     let row = |cost, load, delay| Row { cost, load, delay };
     let rows = vec![row(4, 0, 1), row(3, 200, 0), row(10, 7, 6)];
-    Table { rule, rows }
+    let out = 0;
+    Table { rule, rows, out }
+}
+
+/// Of four disks the second and the last are out, or all; blocks that lose some copies, or all of them, at each place.
+fn with_disks_out() -> Vec<Stream> {
+    let row = |cost, load, delay| Row { cost, load, delay };
+    let rows = vec![row(4, 0, 1), row(3, 200, 0), row(10, 7, 6), row(1, 0, 0)];
+    let mut streams = Vec::new();
+    for out in [10, 15] {
+        let rule = Rule::Larger;
+        let table = Table {
+            rule,
+            rows: rows.clone(),
+            out,
+        };
+        let mut stream = vec![
+            shortest(700),
+            [shortest(1), shortest(300)].concat(),
+            [vec![2], bytes(&with_length(&settings(700, 300, &table)))].concat(),
+        ];
+        for copies in [
+            &[3, 6, 1][..],
+            &[2, 1],
+            &[1, 10],
+            &[10, 2],
+            &[7, 8, 4],
+            &[14, 11],
+            &[10],
+            &[],
+        ] {
+            for age in [None, Some(199)] {
+                for sheet in damage::everywhere(&request(700, 300, age, copies)) {
+                    let sheet = [shortest(sheet.len() as u32), sheet].concat();
+                    stream.push([vec![3, 99], sheet.clone()].concat());
+                    stream.push([vec![5, 0, 1], sheet].concat());
+                }
+            }
+        }
+        streams.push(stream);
+    }
+    streams
 }
 
 fn example_sheets() -> (Vec<Field>, Vec<Field>) {

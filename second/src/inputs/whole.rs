@@ -1,7 +1,8 @@
 //! Whole tables and requests, by family.
 
 use crate::model::{
-    Disk, Row, Rule, Table, MOST_BLOCKS, MOST_COST, MOST_DELAY, MOST_DISKS, MOST_LOAD,
+    holds, Disk, Row, Rule, Table, MOST_BLOCKS, MOST_COPIES, MOST_COST, MOST_DELAY, MOST_DISKS,
+    MOST_LOAD,
 };
 use crate::random::Random;
 
@@ -12,6 +13,11 @@ pub struct Case {
 }
 
 impl Case {
+    fn disks_in_use(&self) -> Vec<usize> {
+        let disks = 0..self.table.rows.len();
+        disks.filter(|&disk| !holds(self.table.out, disk)).collect()
+    }
+
     /// The disks for a request of age 0.
     pub fn disks(&self) -> Vec<Disk> {
         self.table.disks(0)
@@ -21,7 +27,8 @@ impl Case {
 /// The rows with either rule.
 fn ruled(random: &mut Random, rows: Vec<Row>) -> Table {
     let rule = *random.pick(&[Rule::Sum, Rule::Larger]);
-    Table { rule, rows }
+    let out = 0;
+    Table { rule, rows, out }
 }
 
 /// A table with values up to the given ones.
@@ -33,6 +40,38 @@ pub fn table(random: &mut Random, disks: u32, cost: u32, load: u32, delay: u32) 
     };
     let rows = (0..disks).map(|_| row()).collect();
     ruled(random, rows)
+}
+
+/// The case with disks out: none, one, some, all but one, all; mostly so that each block has a copy in use.
+pub fn some_out(random: &mut Random, case: Case) -> Case {
+    let mut case = case;
+    let disks = case.table.rows.len() as u32;
+    let all = u64::MAX >> (64 - disks);
+    let one = 1 << random.within(0, disks - 1);
+    case.table.out = match random.within(1, 16) {
+        1..=7 => 0,
+        8..=10 => one,
+        11..=13 => random.next() & random.next() & all,
+        14 => random.next() & all,
+        15 => all & !one,
+        _ => all,
+    };
+    let left = case.disks_in_use();
+    if !left.is_empty() && !random.once_in(4) {
+        for block in &mut case.copies {
+            if *block & !case.table.out == 0 {
+                *block = with_one_of(random, *block, &left);
+            }
+        }
+    }
+    case
+}
+
+/// The copies with one more, or the last exchanged where there are eight.
+pub fn with_one_of(random: &mut Random, copies: u64, disks: &[usize]) -> u64 {
+    let most = copies.count_ones() == MOST_COPIES;
+    let fewer = if most { copies & (copies - 1) } else { copies };
+    fewer | 1 << random.pick(disks)
 }
 
 /// An age about the loads of a table: none, equal to one of them, one less or more, larger than all.

@@ -5,18 +5,19 @@ use Rattle.request.proofs.Reading.{Filling, filling-start, filling-step
 use Rattle.request.proofs.Reading.{copies-got, copies-refused}
 use Rattle.field.proofs.Readers.{told-got, told-refused}
 use mathlib.Core.Path.{refl}
+use Rattle.mask.specs.Has.{has}
 use Prim.Native.Nat.{_-_}
 use Rattle.request.proofs.blocks.Statement.{statement}
 use Rattle.request.proofs.blocks.Tie as tie
 
 abbrev Inv-loop : tie.InvT-loop
-Inv-loop s at heading high copies₀ q p₀ i₀ copies p i = Filling (heading .blocks) high s at copies p i
+Inv-loop s at heading high out copies₀ q p₀ i₀ copies p i = Filling (heading .blocks) high (has out) s at copies p i
 
 abbrev μ-loop : tie.MeasureT-loop
-μ-loop s at heading high copies₀ q p₀ i₀ copies p i = heading .blocks - i
+μ-loop s at heading high out copies₀ q p₀ i₀ copies p i = heading .blocks - i
 
 loop-holds : tie.Need-loop-holds Inv-loop μ-loop
-loop-holds c = filling-start _ _ _ _
+loop-holds c = filling-start _ _ _ _ _
 
 one-block-requires : tie.Need-one-block-requires Inv-loop μ-loop
 one-block-requires c κs = c .before .before .before .before .pre .1
@@ -39,7 +40,7 @@ returns c =
     let at-loop-test = at-one-block .before in
     let at-loop = at-loop-test .before in
     answered-of
-    (filling-stop _ _ _ _ _ _ _ (at-loop .loop .inv)
+    (filling-stop _ _ _ _ _ _ _ _ (at-loop .loop .inv)
     (at-loop-test .loop-test .taken)
     (copies-refused (at-one-block .one-block .ensures) (c .before .before .e .given .1))) (c .refuse .ensures _)
 
@@ -55,7 +56,7 @@ loop-again c =
     let at-loop-test = at-one-block .before in
     let at-loop = at-loop-test .before in
     let at-start = at-loop .before .before .before in
-    filling-step _ _ _ _ _ _ _ (at-loop .loop .inv)
+    filling-step _ _ _ _ _ _ _ _ (at-loop .loop .inv)
     (at-loop-test .loop-test .taken) (at-start .pre .0)
     (copies-got (at-one-block .one-block .ensures) (c .before .m .given .1))
 
@@ -64,7 +65,7 @@ returns-2 c =
     let at-loop-test = c .before .before .before in
     let at-loop = at-loop-test .before in
     let at-start = at-loop .before .before .before in
-    filling-done _ _ _ _ _ _ _ (at-loop .loop .inv) _ refl refl refl refl
+    filling-done _ _ _ _ _ _ _ _ (at-loop .loop .inv) _ refl refl refl refl
     (at-loop-test .loop-test .left) (at-start .pre .0)
     (told-got (c .before .before .end .ensures) (c .enum-told .given .1))
 
@@ -74,7 +75,7 @@ returns-3 c =
     let at-loop-test = at-end .before in
     let at-loop = at-loop-test .before in
     answered-of
-    (filling-extra _ _ _ _ _ _ _ (at-loop .loop .inv)
+    (filling-extra _ _ _ _ _ _ _ _ (at-loop .loop .inv)
     (at-loop-test .loop-test .left)
     (told-refused (at-end .end .ensures) (c .before .before .e2 .given .1))) (c .refuse2 .ensures _)
 

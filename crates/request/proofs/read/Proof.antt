@@ -16,12 +16,12 @@ blocks-requires c κs =
 
 returns : tie.Need-returns
 returns c = let found = c .before .before .before in
-    answered-sheet _ _ _ _ (head-got (found .before .before .heading .ensures) (found .h .given .1)) (c .before .last .ensures)
+    answered-sheet _ _ _ _ _ (head-got (found .before .before .heading .ensures) (found .h .given .1)) (c .before .last .ensures)
     (c .blocks2 .ensures)
 
 returns-2 : tie.Need-returns-2
 returns-2 c = let stop = c .before .before in
-    answered-of (sheet-stops _ _ _ _ (head-refused (stop .before .before .heading .ensures) (stop .e .given .1))) (c .refuse .ensures _)
+    answered-of (sheet-stops _ _ _ _ _ (head-refused (stop .before .before .heading .ensures) (stop .e .given .1))) (c .refuse .ensures _)
 
 pub read-spec : {M : Type 1} → statement M
 read-spec =

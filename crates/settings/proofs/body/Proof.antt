@@ -10,10 +10,10 @@ use Rattle.settings.proofs.body.Statement.{statement}
 use Rattle.settings.proofs.body.Tie as tie
 
 abbrev Inv-loop : tie.InvT-loop
-Inv-loop s start rows₀ at₀ disks rule n i₀ rows at i = Rows (record { disks = disks; rule = rule }) s start rows at i × (n ≡ disks)
+Inv-loop s start head rows₀ at₀ disks rule n i₀ rows at i = Rows head s start rows at i × (n ≡ head .disks)
 
 abbrev μ-loop : tie.MeasureT-loop
-μ-loop s start rows₀ at₀ disks rule n i₀ rows at i = disks - i
+μ-loop s start head rows₀ at₀ disks rule n i₀ rows at i = disks - i
 
 loop-holds : tie.Need-loop-holds Inv-loop μ-loop
 loop-holds c = (rows-start _ _ _ (c .before .empty .ensures), refl)
