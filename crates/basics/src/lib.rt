@@ -1,4 +1,5 @@
 // The limits of document 01, and the arrays that they give. Definitions and laws that every crate may use are in specs/ and proofs/.
+#![tactic(auto)]
 
 // Disks of a unit, blocks of a request, copies of a block, at most.
 pub const DISKS: usize = 64;

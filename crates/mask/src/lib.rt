@@ -1,4 +1,6 @@
 // One u64 is a set of disks: bit d stands for disk d. A number at DISKS or above is no disk.
+#![tactic(auto)]
+
 ghost use Rattle.std.specs.Prelude.{◌≡◌, not, ◌&&◌, ◌||◌, ℕ, ◌<◌, eqb, ltb};
 ghost use Rattle.basics.specs.Limits.{disks_most};
 ghost use Rattle.mask.specs.Has.{has};

@@ -1,4 +1,5 @@
 // The retrieval model: definitions in specs/, theorems in proofs/. Its one type is the start rule; it has no functions.
+#![tactic(auto)]
 
 // When a disk starts: at the sum of delay and load, or at the larger of the two.
 #[derive(Drop)]

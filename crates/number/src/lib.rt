@@ -1,4 +1,6 @@
 // One number of a sheet: read it, write it in its shortest form, find its width.
+#![tactic(auto)]
+
 ghost use Rattle.std.specs.Prelude.{◌≡◌, ◌≤◌, length};
 ghost use Rattle.number.specs.Decode.{decode, more};
 ghost use Rattle.number.specs.Encode.{width_of, WroteNumber};

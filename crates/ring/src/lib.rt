@@ -1,4 +1,6 @@
 // Blocks in rings: next and prev lead from node to node. A node is a block, or BLOCKS + d, where the ring of place d begins and ends.
+#![tactic(auto)]
+
 ghost use Rattle.std.specs.Prelude.{◌<◌, get_or};
 ghost use Rattle.basics.specs.Limits.{nodes_most};
 ghost use Rattle.ring.specs.Rings.{Unlinked, Linked};

@@ -2,11 +2,7 @@
 use borrow.Author.Rules.{rules}
 use Rattle.basics.specs.Limits.{disks_most}
 use Rattle.mask.proofs.Members.{ones_members}
-use Rattle.mask.proofs.count.Statement.{statement}
-use Rattle.mask.proofs.count.Tie as tie
+use Rattle.mask.proofs.count.Goals as goal
 
-returns : tie.Need-returns
+pub returns : goal.returns
 returns c = ones_members disks_most c.args.m (search rules)
-
-pub count_spec : {M : Type 1} → statement M
-count_spec = tie.close (tie.spec returns)

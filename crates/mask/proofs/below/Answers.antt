@@ -1,0 +1,24 @@
+-- `below` is a power of two less one, which has the disks under its exponent.
+use mathlib.Core.Path.{sym, ap, subst, ◌∙◌}
+use Prim.Native.Nat.{ℕ, ◌-◌, ◌≤◌}
+use native.Mathlib.Omega.{arith}
+use lib.Dec.{ltb}
+use lib.Pow.{pow_pos}
+use borrow.Author.Rules.{rules}
+use Rattle.basics.specs.Limits.{disks_most}
+use Rattle.mask.specs.Has.{has}
+use Rattle.mask.proofs.Bits.{shl_one, has_ones}
+use Rattle.mask.proofs.below.Goals as goal
+
+pub overflow_sub-result : goal.overflow_sub-result
+overflow_sub-result c = subst (λ (x : ℕ). 1 ≤ x) (sym (shl_one disks_most c.args.n c.if-n-lt-DISKS.true)) (pow_pos c.args.n)
+
+pub returns-then-n-lt-DISKS : goal.returns-then-n-lt-DISKS
+returns-then-n-lt-DISKS c = record {
+  holds = λ h e. ap (λ (x : ℕ). has (x - 1) e) (shl_one disks_most c.args.n c.if-n-lt-DISKS.true)
+      ∙ has_ones c.args.n e;
+  beyond = λ h. absurd (omega arith);
+}
+
+pub returns-else-n-lt-DISKS : goal.returns-else-n-lt-DISKS
+returns-else-n-lt-DISKS c = record { holds = λ h e. has_ones disks_most e ∙ ap (ltb e) (omega arith); beyond = λ h. has_ones disks_most }
