@@ -10,7 +10,7 @@ ghost use Rattle.engine.specs.Parts.{Stored, Listed, Fresh, Naming, Named, Sorte
 use basics::{BLOCKS, Capacities, Counts, DISKS, Links, Masks, NODES, PLACES, Reaches, Seats};
 
 // The least time R, and how many blocks the short set has.
-#[derive(Drop)]
+#[derive(Clone, Copy)]
 pub struct Found {
     pub time: u32,
     pub size: usize,

@@ -1,4 +1,6 @@
 // What every sheet is made of: the refusals, reading a field at a place, writing a field into a lent buffer.
+#![tactic(auto)]
+
 ghost use Rattle.std.specs.Prelude.{◌≡◌, ◌≤◌, length};
 ghost use Rattle.field.specs.Field.{number as number_at, between as between_of, tenancy as tenancy_of, kind as kind_of};
 ghost use Rattle.field.specs.Field.{addressed as addressed_of, opening as opening_of, end as end_of};
@@ -11,7 +13,7 @@ ghost use Rattle.field.specs.Told.{told};
 use number::Number;
 
 // Why a sheet or a call is refused.
-#[derive(Drop)]
+#[derive(Clone, Copy)]
 pub enum Refusal {
     // The sheet ends inside a number or before one that is due.
     SheetEnds,
@@ -50,28 +52,28 @@ pub enum Refusal {
 }
 
 // A refusal, and the place that it tells: a byte of the sheet or its end; with NoRoom what was needed; 0 where no sheet is at fault.
-#[derive(Drop)]
+#[derive(Clone, Copy)]
 pub struct Fault {
     pub refusal: Refusal,
     pub place: usize,
 }
 
 // What reading a field gives: its value and the place after it, or the refusal.
-#[derive(Drop)]
+#[derive(Clone, Copy)]
 pub enum Field {
     Got(u32, usize),
     Refused(Fault),
 }
 
 // What is answered to a sheet or a call that changes a unit.
-#[derive(Drop)]
+#[derive(Clone, Copy)]
 pub enum Verdict {
     Accepted,
     Refused(Fault),
 }
 
 // What a writer of sheets answers: the length written, or the refusal.
-#[derive(Drop)]
+#[derive(Clone, Copy)]
 pub enum Written {
     Length(usize),
     Refused(Fault),

@@ -7,7 +7,7 @@ use basics::{Capacities, Counts, Links, Masks, PLACES, Reaches, Seats, Steps};
 use search::Hit;
 
 // What is known of the disks: those that have room, and some that are full and closed.
-#[derive(Drop)]
+#[derive(Clone, Copy)]
 struct Known {
     room: u64,
     closed: u64,

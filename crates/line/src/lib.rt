@@ -19,7 +19,7 @@ pub const SHEET_MOST: usize = (LINE_MOST - 6) / 2;
 pub type Line = [u8; LINE_MOST];
 
 // What a line can say in a word, or in a word and one or two numbers.
-#[derive(Drop)]
+#[derive(Clone, Copy)]
 pub enum Word {
     Rented,
     Set,

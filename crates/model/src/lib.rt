@@ -2,7 +2,7 @@
 #![tactic(auto)]
 
 // When a disk starts: at the sum of delay and load, or at the larger of the two.
-#[derive(Drop)]
+#[derive(Clone, Copy)]
 pub enum Rule {
     Sum,
     Larger,

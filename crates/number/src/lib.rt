@@ -7,7 +7,7 @@ ghost use Rattle.number.specs.Encode.{width_of, WroteNumber};
 ghost use Rattle.number.specs.Told.{told};
 
 // What stands at the start of a list of bytes.
-#[derive(Drop)]
+#[derive(Clone, Copy)]
 pub enum Number {
     // A value, and the bytes it used.
     Value(u32, usize),

@@ -2,6 +2,8 @@
 // seats[b] is the disk of block b, or n for none; counts[d] counts the blocks at d, n included.
 // The movable blocks at d stand in a ring: next and prev lead from block to block, and BLOCKS + d is where the ring of d begins and ends.
 // out[d] has the disks of all copies of the movable blocks at d, and perhaps others.
+#![tactic(auto)]
+
 ghost use Rattle.std.specs.Prelude.{◌+◌, ◌≤◌};
 ghost use Rattle.basics.specs.Limits.{disks_most};
 ghost use Rattle.places.specs.Seats.{Seated, Shifting, Shifted, Lifted, Empty, Cleared};

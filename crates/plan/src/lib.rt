@@ -16,7 +16,7 @@ use basics::{BLOCKS, DISKS, TIME_MOST};
 use field::{Fault, Field, Refusal, Written};
 
 // What an accepted plan sheet says, beside its two lists.
-#[derive(Drop)]
+#[derive(Clone, Copy)]
 pub struct Head {
     // The number of blocks, Q.
     pub blocks: usize,
@@ -27,14 +27,14 @@ pub struct Head {
 }
 
 // What reading a plan sheet answers.
-#[derive(Drop)]
+#[derive(Clone, Copy)]
 pub enum Answer {
     Accepted(Head),
     Refused(Fault),
 }
 
 // A plan sheet that was read to its end: its counts and time, and where its lists begin.
-#[derive(Drop)]
+#[derive(Clone, Copy)]
 struct Frame {
     blocks: u32,
     time: u32,
@@ -44,7 +44,7 @@ struct Frame {
 }
 
 // What reading a sheet to its end finds.
-#[derive(Drop)]
+#[derive(Clone, Copy)]
 enum Found {
     Whole(Frame),
     Refused(Fault),

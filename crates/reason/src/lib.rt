@@ -8,7 +8,7 @@ ghost use Rattle.reason.specs.Parts.{Forced, Kept};
 use basics::{BLOCKS, Masks};
 
 // The time with Later is the least one if the block were forced to the disk.
-#[derive(Drop)]
+#[derive(Clone, Copy)]
 pub enum Reason {
     NoCopy,
     Later(u32),

@@ -21,7 +21,7 @@ use basics::{BLOCKS, COPIES, DISKS, Masks};
 use field::{Fault, Field, Refusal, Verdict, Written};
 
 // What a reader of requests answers: the block count Q, or the refusal.
-#[derive(Drop)]
+#[derive(Clone, Copy)]
 pub enum Answer {
     Accepted(usize),
     Refused(Fault),
@@ -38,7 +38,7 @@ pub struct Request {
 }
 
 // The kind of a request, the age of the settings, and the block count Q.
-#[derive(Drop)]
+#[derive(Clone, Copy)]
 pub struct Head {
     pub kind: u32,
     pub age: u32,
@@ -46,14 +46,14 @@ pub struct Head {
 }
 
 // What reading the heading gives: it and the place after it, or the refusal.
-#[derive(Drop)]
+#[derive(Clone, Copy)]
 enum HeadRead {
     Got(Head, usize),
     Refused(Fault),
 }
 
 // What reading one block gives: its copies and the place after it, or the refusal.
-#[derive(Drop)]
+#[derive(Clone, Copy)]
 enum Copies {
     Got(u64, usize),
     Refused(Fault),

@@ -12,14 +12,14 @@ ghost use Rattle.search.specs.Parts.{Visiting, Visited, Sought, Drawing};
 use basics::{BLOCKS, Counts, DISKS, Links, Masks, Reaches, Seats, Steps};
 
 // What the search yields: a disk that has room with the number of steps to it, or the reached disks, all full.
-#[derive(Drop)]
+#[derive(Clone, Copy)]
 pub enum Hit {
     Free(usize, usize),
     Stuck(u64),
 }
 
 // How far a search has come: the reached disks, the steps noted, and a disk with room, or DISKS.
-#[derive(Drop)]
+#[derive(Clone, Copy)]
 struct Reach {
     disks: u64,
     steps: usize,

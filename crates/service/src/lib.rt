@@ -24,7 +24,7 @@ pub struct Shelf {
 }
 
 // Where a turn leaves the shelf: what was due is done; more bytes are wanted; nothing follows.
-#[derive(Drop)]
+#[derive(Clone, Copy)]
 pub enum Next {
     Served,
     Wants,

@@ -19,7 +19,7 @@ use field::{Fault, Field, Refusal, Verdict, Written};
 use model::Rule;
 
 // One disk: the cost of a block, the load when the settings were measured, the delay, and its mark: 0 in use, 1 out.
-#[derive(Drop)]
+#[derive(Clone, Copy)]
 pub struct Row {
     pub cost: u32,
     pub load: u32,
@@ -43,7 +43,7 @@ pub struct Settings {
 }
 
 // What stands before the rows: the kind, N, and the start rule.
-#[derive(Drop)]
+#[derive(Clone, Copy)]
 struct Head {
     kind: u32,
     disks: u32,
@@ -51,14 +51,14 @@ struct Head {
 }
 
 // That and the place after it, or the refusal.
-#[derive(Drop)]
+#[derive(Clone, Copy)]
 enum HeadRead {
     Got(Head, usize),
     Refused(Fault),
 }
 
 // One row and the place after it, or the refusal.
-#[derive(Drop)]
+#[derive(Clone, Copy)]
 enum RowRead {
     Got(Row, usize),
     Refused(Fault),

@@ -10,14 +10,14 @@ use field::{Fault, Field, Refusal};
 pub const ROOM_MOST: usize = 4096;
 
 // Where a framed sheet stands, or why there is none.
-#[derive(Drop)]
+#[derive(Clone, Copy)]
 pub enum Span {
     Part(usize, usize),
     Refused(Fault),
 }
 
 // What a call in the shelf's stream asks: where its sheet stands, and the place after the call.
-#[derive(Drop)]
+#[derive(Clone, Copy)]
 pub enum Call {
     Rent(u32, usize),
     Settings(usize, usize),

@@ -9,7 +9,7 @@ use basics::{Capacities, Counts, DISKS, Links, Masks, PLACES, Reaches, Seats, St
 use search::Hit;
 
 // A time, and the disks that have room then.
-#[derive(Drop)]
+#[derive(Clone, Copy)]
 struct Moment {
     time: u32,
     room: u64,

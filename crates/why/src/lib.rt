@@ -16,7 +16,7 @@ use request::Answer;
 use unit::Unit;
 
 // The reason, or the refusal.
-#[derive(Drop)]
+#[derive(Clone, Copy)]
 pub enum Why {
     Told(Reason),
     Refused(Fault),

@@ -1,0 +1,12 @@
+use Prim.Native.Nat.{ℕ, ◌+◌, ◌-◌, ◌≤◌}
+use mathlib.Core.Path.{◌≡◌, subst}
+use Rattle.basics.specs.Limits.{blocks_most}
+use Rattle.places.proofs.Clearing.{Clearing, clearing_start, clearing_more, cleared}
+use native.Mathlib.Omega.{arith}
+use Rattle.places.proofs.clear_all.Given as goal
+
+abbrev pub invariant-loop-b : goal.invariant-loop-b
+invariant-loop-b l = (l.b ≤ l.q) × Clearing l.n l.b l.seats l.next l.prev
+
+abbrev pub decreases-loop-b : goal.decreases-loop-b
+decreases-loop-b l = l.q - l.b

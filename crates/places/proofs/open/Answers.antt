@@ -1,0 +1,35 @@
+-- `places::open` meets its contract.
+use Prim.Native.Nat.{ℕ, ◌+◌, ◌≤◌, ◌-◌}
+use mathlib.Core.Path.{◌≡◌, sym, ap, subst, ◌∙◌}
+use mathlib.Core.Logic.{⊎_elim}
+use mathlib.Core.Bool.{◌&&◌}
+use lib.Dec.{ltb}
+use borrow.Author.Tests.{lt-ltb, le-ltb}
+use Rattle.places.specs.Places.{roomy}
+use Rattle.places.proofs.Masks.{Upto, upto_start, upto_put, upto_skip}
+use borrow.Author.Rules.{rules}
+use native.Mathlib.Omega.{arith}
+use Rattle.places.proofs.open.Goals as goal
+
+pub loop-d-init : goal.loop-d-init
+loop-d-init c = (search rules, upto_start _)
+
+pub loop-d-preserved : goal.loop-d-preserved
+loop-d-preserved c =
+    let l = c.loop-d in
+    let a = c.args in
+    let p = roomy a.caps.now a.counts.now in (
+      omega arith,
+      ⊎_elim
+          (λ w. subst (Upto p (l.d + 1)) (sym w.2)
+          (upto_put p l.d l.m w.1.result l.invariant.1 (lt-ltb _ _ w.0.taken) w.1.ensures))
+          (λ w. subst (Upto p (l.d + 1)) (sym w.1) (upto_skip p l.d l.m l.invariant.1 (le-ltb _ _ w.0.left)))
+          c.if-counts-d.branch,
+    )
+
+pub returns : goal.returns
+unfolding Upto
+returns c d =
+    let a = c.args in
+    let e : c.loop-d.d ≡ a.n = omega arith in
+    c.loop-d.invariant.1 d ∙ ap (λ (x : ℕ). ltb d x && roomy a.caps.now a.counts.now d) e
