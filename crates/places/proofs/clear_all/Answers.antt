@@ -34,12 +34,11 @@ pub overflow_add-n : goal.overflow_add-n
 overflow_add-n c = omega (arith, c.requires.disks)
 
 pub link-requires : goal.link-requires
-link-requires c =
-    let s = l in (
-      omega (arith, c.loop-b-test.true, s.requires.blocks),
-      omega (arith, s.requires.disks),
-      c.loop-b.invariant.1.ringed.bounded_prev (blocks_most + s.args.n),
-    )
+link-requires c = (
+  omega (arith, c.loop-b-test.true, c.requires.blocks),
+  omega (arith, c.requires.disks),
+  c.loop-b.invariant.1.ringed.bounded_prev (blocks_most + c.args.n),
+)
 
 pub overflow_add-b : goal.overflow_add-b
 overflow_add-b c = omega (arith, c.loop-b-test.true, c.requires.blocks)
@@ -48,11 +47,10 @@ pub loop-b-smaller : goal.loop-b-smaller
 loop-b-smaller c = omega (arith, c.loop-b-test.true)
 
 pub loop-b-preserved : goal.loop-b-preserved
-loop-b-preserved c =
-    let s = t in (
-      omega (arith, c.loop-b-test.true),
-      clearing_more c.loop-b.invariant.1 (omega (arith, c.loop-b-test.true, s.requires.blocks)) c.link.ensures,
-    )
+loop-b-preserved c = (
+  omega (arith, c.loop-b-test.true),
+  clearing_more c.loop-b.invariant.1 (omega (arith, c.loop-b-test.true, c.requires.blocks)) c.link.ensures,
+)
 
 pub overflow_cast-counts : goal.overflow_cast-counts
 overflow_cast-counts c = omega (arith, c.requires.blocks)

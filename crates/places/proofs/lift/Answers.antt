@@ -39,8 +39,7 @@ overflow_cast-b c =
 
 pub shift-requires : goal.shift-requires
 shift-requires c =
-    let t = i in
-    lifting_shifting t.before.loop.invariant t.loop-test.true c.if-caps-d.true
+    lifting_shifting c.loop-d.invariant c.loop-d-test.true c.if-caps-d.true
 
 pub loop-d-smaller-then-caps-d : goal.loop-d-smaller-then-caps-d
 loop-d-smaller-then-caps-d c =
@@ -56,8 +55,7 @@ loop-d-smaller-then-caps-d c =
 
 pub loop-d-preserved-then-caps-d : goal.loop-d-preserved-then-caps-d
 loop-d-preserved-then-caps-d c =
-    let t = i in
-    lifting_off t.before.loop.invariant t.loop-test.true c.if-caps-d.true c.shift.ensures
+    lifting_off c.loop-d.invariant c.loop-d-test.true c.if-caps-d.true c.shift.ensures
 
 pub overflow_add-d : goal.overflow_add-d
 overflow_add-d c = omega (arith, c.loop-d.invariant.seated.placed.disks)

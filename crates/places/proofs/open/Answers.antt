@@ -10,6 +10,7 @@ use Rattle.places.proofs.Masks.{Upto, upto_start, upto_put, upto_skip}
 use borrow.Author.Rules.{rules}
 use native.Mathlib.Omega.{arith}
 use Rattle.places.proofs.open.Goals as goal
+use Rattle.places.proofs.open.Goals.{then-counts-d, else-counts-d}
 
 pub loop-d-init : goal.loop-d-init
 loop-d-init c = (search rules, upto_start _)
@@ -20,11 +21,11 @@ loop-d-preserved c =
     let a = c.args in
     let p = roomy a.caps.now a.counts.now in (
       omega arith,
-      ⊎_elim
-          (λ w. subst (Upto p (l.d + 1)) (sym w.2)
-          (upto_put p l.d l.m w.1.result l.invariant.1 (lt-ltb _ _ w.0.taken) w.1.ensures))
-          (λ w. subst (Upto p (l.d + 1)) (sym w.1) (upto_skip p l.d l.m l.invariant.1 (le-ltb _ _ w.0.left)))
-          c.if-counts-d.branch,
+      elim c.if-counts-d.branch [
+        | then-counts-d w ↦ subst (Upto p (l.d + 1)) (sym w.m-is)
+            (upto_put p l.d l.m w.put-m.result l.invariant.1 (lt-ltb _ _ w.if-counts-d.true) w.put-m.ensures)
+        | else-counts-d w ↦ subst (Upto p (l.d + 1)) (sym w.m-is) (upto_skip p l.d l.m l.invariant.1 (le-ltb _ _ w.if-counts-d.false))
+      ],
     )
 
 pub returns : goal.returns

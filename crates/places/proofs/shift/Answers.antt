@@ -39,8 +39,8 @@ returns c =
     record {
       moved = moved c.requires.movable;
       relinked = record {
-        mid_next = u.new.1.0;
-        mid_prev = u.new.1.1.0;
+        mid_next = u.new.next;
+        mid_prev = u.new.prev;
         out = u.ensures;
         back = c.link.ensures;
       };
