@@ -1,4 +1,6 @@
 // The plan sheet: read into two lent lists, written from what a planner found.
+#![tactic(auto)]
+
 ghost use Rattle.std.specs.Prelude.{◌≡◌, ℕ, ◌+◌, ◌-◌, ◌≤◌, ◌<◌, length};
 ghost use Rattle.basics.specs.Limits.{blocks_most};
 ghost use Rattle.number.specs.Encode.{encode};

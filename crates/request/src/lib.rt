@@ -1,4 +1,6 @@
 // The read request: its reader and its writer.
+#![tactic(auto)]
+
 ghost use Rattle.std.specs.Prelude.{◌≡◌, ℕ, ◌+◌, ◌≤◌, ◌<◌, length, get_or};
 ghost use Rattle.basics.specs.Limits.{disks_most, blocks_most};
 ghost use Rattle.number.specs.Encode.{encode};

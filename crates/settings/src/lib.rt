@@ -1,5 +1,7 @@
 // The settings sheet: kind 1, 5 or 6, unit, tenancy, disk count N, with kind 6 the start rule, then for each disk its cost, load and delay,
 // with kind 6 its mark.
+#![tactic(auto)]
+
 ghost use Rattle.std.specs.Prelude.{◌≡◌, ◌+◌, ◌≤◌, ◌<◌, length};
 ghost use Rattle.basics.specs.Limits.{disks_most};
 ghost use Rattle.field.specs.Field.{whole};
@@ -260,8 +262,8 @@ fn row_width(kind: u32, cost: u32, load: u32, delay: u32, mark: u32) -> usize
 
 // The bytes of all rows, or 0 where a value is out of its range.
 fn rows_width(kind: u32, costs: &[u32], loads: &[u32], delays: &[u32], marks: &[u32]) -> usize
-    requires loads_len { (length loads.now ≡ length costs.now) × (length delays.now ≡ length costs.now) }
-    requires marks_len { (length marks.now ≡ length costs.now) × (length costs.now ≤ disks_most) }
+    requires rows_level { (length loads.now ≡ length costs.now) × (length delays.now ≡ length costs.now) }
+    requires marks_level { (length marks.now ≡ length costs.now) × (length costs.now ≤ disks_most) }
     ensures { result ≡ rows_width kind (rows_of costs.now loads.now delays.now marks.now) }
 {
     let mut total = 0;
@@ -317,9 +319,9 @@ fn put_rows(
     out: &mut [u8],
     start: usize,
 ) -> usize
-    requires loads_len { (length loads.now ≡ length costs.now) × (length delays.now ≡ length costs.now) }
-    requires marks_len { length marks.now ≡ length costs.now }
-    requires marks_in_bounds { start + length (spell_all (row_bytes kind) (rows_of costs.now loads.now delays.now marks.now)) ≤ length out.old }
+    requires rows_level { (length loads.now ≡ length costs.now) × (length delays.now ≡ length costs.now) }
+    requires marks_level { length marks.now ≡ length costs.now }
+    requires room { start + length (spell_all (row_bytes kind) (rows_of costs.now loads.now delays.now marks.now)) ≤ length out.old }
     ensures { Laid out.old start
         (spell_all (row_bytes kind) (rows_of costs.now loads.now delays.now marks.now))
         out.new result }
