@@ -1,4 +1,6 @@
 // Lists lent as bytes, lowest byte first, and answers of several numbers as one.
+#![tactic(auto)]
+
 ghost use Rattle.std.specs.Prelude.{◌≡◌, ℕ, ◌+◌, ◌*◌, ◌/◌, ◌≤◌, ◌<◌, length, take, replicate};
 ghost use Rattle.basics.specs.Limits.{disks_most, blocks_most};
 ghost use Rattle.field.specs.Put.{spell_all};

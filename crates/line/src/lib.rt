@@ -1,4 +1,6 @@
 // What the programs print: lines of text at the start of a lent buffer, which has room for the longest.
+#![tactic(auto)]
+
 ghost use Rattle.std.specs.Prelude.{◌<◌, ◌≡◌, [], ◌∷◌, ◌++◌};
 ghost use Rattle.field.specs.Put.{spell_all};
 ghost use Rattle.field.specs.Refusal.{number_of};

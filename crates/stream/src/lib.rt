@@ -1,4 +1,6 @@
 // Framed in a stream of bytes: a sheet behind its length, and one of the shelf's calls.
+#![tactic(auto)]
+
 ghost use Rattle.stream.specs.Call.{asked, behind, rents, returns, of_tenancy, of_settings, of_request, of_why, Framed};
 ghost use Rattle.stream.specs.Frame.{Spans};
 ghost use Rattle.stream.specs.Frame.{sheet as framed_sheet};

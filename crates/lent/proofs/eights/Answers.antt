@@ -1,0 +1,18 @@
+-- `eights`: the loop that gathers numbers, at eight bytes each.
+use borrow.Author.Rules.{rules}
+use native.Mathlib.Omega.{arith}
+use Prim.Native.Nat.{ℕ, ◌-◌}
+use lib.ListN.{replicate, length-replicate}
+use Rattle.lent.proofs.Filling.{Gathered, gathered_start, gathered_step, gathered_done}
+use mathlib.Core.Path.{refl}
+use Rattle.lent.proofs.eights.Goals as goal
+
+pub loop-i-init : goal.loop-i-init
+loop-i-init c = gathered_start refl
+
+pub loop-i-preserved : goal.loop-i-preserved
+loop-i-preserved c = gathered_step c.loop-i.invariant c.loop-i-test.true
+    (omega (arith, c.requires, length-replicate {A = ℕ} 1024 0)) c.eight_at.ensures
+
+pub returns : goal.returns
+returns c = gathered_done c.loop-i.invariant c.loop-i-test.false

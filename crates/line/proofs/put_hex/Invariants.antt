@@ -1,0 +1,17 @@
+use borrow.Author.Rules.{rules}
+use native.Mathlib.Omega.{arith}
+use Rattle.line.proofs.Adding.{adds_at, adds_start, adds_full, adds_whole, adds_pair, hex_length}
+use Rattle.line.specs.Text.{pair, hex}
+use Rattle.line.specs.Parts.{Adds}
+use Rattle.field.specs.Put.{spell_all}
+use lib.ListN.{length, take, length-set}
+use Prim.Native.Nat.{◌+◌, ◌*◌, ◌-◌, ◌≤◌}
+use mathlib.Core.Path.{◌≡◌, refl}
+use Rattle.line.proofs.put_hex.Given as goal
+
+abbrev pub invariant-loop-i : goal.invariant-loop-i
+invariant-loop-i l =
+    (l.i ≤ length l.xs) × Adds (spell_all pair (take l.i l.xs)) l.initial.out l.at l.out (l.at + 2 * l.i) × (length l.out ≡ length l.initial.out)
+
+abbrev pub decreases-loop-i : goal.decreases-loop-i
+decreases-loop-i l = length l.xs - l.i

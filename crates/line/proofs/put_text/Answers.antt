@@ -1,0 +1,28 @@
+-- `put_text`. The loop's invariant: the bytes passed stand behind what was there (`Adds`).
+use borrow.Author.Rules.{rules}
+use native.Mathlib.Omega.{arith}
+use Rattle.line.proofs.Adding.{adds_none, adds_next, adds_whole, adds_same, spell_bytes}
+use Rattle.line.specs.Parts.{Adds}
+use Rattle.field.specs.Put.{spell_all}
+use lib.ListN.{length, take}
+use Prim.Native.Nat.{◌-◌, ◌≤◌}
+use mathlib.Core.List.{[], ◌∷◌}
+use mathlib.Core.Path.{◌≡◌, refl}
+use Rattle.line.proofs.put_text.Goals as goal
+
+pub loop-i-init : goal.loop-i-init
+unfolding spell_all
+loop-i-init c = (omega arith, adds_none _ _, refl)
+
+pub loop-i-preserved : goal.loop-i-preserved
+loop-i-preserved c = (
+  omega arith,
+  adds_next _ c.args.text.now
+      c.loop-i.i (omega arith)
+      c.loop-i.invariant.1 c.put_byte-p.ensures,
+  search rules,
+)
+
+pub returns : goal.returns
+returns c = adds_same (spell_bytes _)
+    (adds_whole _ c.args.text.now c.loop-i.i (omega arith) c.loop-i.invariant.1)
