@@ -2,7 +2,6 @@
 use mathlib.Core.Path.{sym, ap, subst, ◌∙◌}
 use Prim.Native.Nat.{ℕ, ◌-◌, ◌≤◌}
 use lib.Pow.{pow_pos}
-use borrow.Author.Rules.{rules}
 use Rattle.basics.specs.Limits.{disks_most}
 use Rattle.mask.specs.Has.{has}
 use Rattle.mask.proofs.Bits.{shl_one, has_ones}

@@ -4,7 +4,6 @@ use Prim.Native.Nat.{ℕ, ◌-◌, ◌≤◌}
 use native.Mathlib.Omega.{arith}
 use lib.Dec.{ltb}
 use lib.Pow.{pow_pos}
-use borrow.Author.Rules.{rules}
 use Rattle.basics.specs.Limits.{disks_most}
 use Rattle.mask.specs.Has.{has}
 use Rattle.mask.proofs.Bits.{shl_one, has_ones}

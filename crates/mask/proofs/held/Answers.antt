@@ -1,5 +1,4 @@
 -- `held` answers `has m d`: a shift and a mask.
-use borrow.Author.Rules.{rules}
 use Rattle.mask.proofs.Bits.{has_shr}
 use Rattle.mask.proofs.held.Goals as goal
 

@@ -1,7 +1,6 @@
 -- `only` is a power of two, which has one disk.
 use mathlib.Core.Path.{ap, ◌∙◌}
 use Prim.Native.Nat.{ℕ}
-use borrow.Author.Rules.{rules}
 use Rattle.basics.specs.Limits.{disks_most}
 use Rattle.mask.specs.Has.{has}
 use Rattle.mask.proofs.Bits.{shl_one, has_pow}

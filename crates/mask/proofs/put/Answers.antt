@@ -1,5 +1,4 @@
 -- `put` puts one disk in.
-use borrow.Author.Rules.{rules}
 use Rattle.basics.specs.Limits.{disks_most}
 use Rattle.mask.proofs.Bits.{has_set}
 use Rattle.mask.proofs.put.Goals as goal
