@@ -1,4 +1,4 @@
-// The desk end for C: lists lent as bytes, one call, one packed answer.
+// The desk end: lists lent as bytes, one call, one packed answer. `desk_c` exports these functions to C.
 ghost use Rattle.std.specs.Prelude.{◌≡◌, ◌/◌, ◌≤◌, length};
 ghost use Rattle.basics.specs.Limits.{disks_most};
 ghost use Rattle.field.specs.Send.{Sent};
@@ -74,8 +74,7 @@ fn write_settings(
 }
 
 // Writes a settings sheet of kind 1: every disk starts at the sum of its delay and load.
-#[unsafe(no_mangle)]
-pub extern "C" fn rp_write_settings(
+pub fn rp_write_settings(
     unit: u32,
     tenancy: u32,
     costs: &[u8],
@@ -90,8 +89,7 @@ pub extern "C" fn rp_write_settings(
 }
 
 // Writes a settings sheet of kind 5: every disk starts at the larger of its delay and load.
-#[unsafe(no_mangle)]
-pub extern "C" fn rp_write_settings_overlap(
+pub fn rp_write_settings_overlap(
     unit: u32,
     tenancy: u32,
     costs: &[u8],
@@ -145,8 +143,7 @@ fn send_marked(
 
 // Writes a settings sheet of kind 6: the start rule, 1 for the sum of delay and load and 2 for the larger; four bytes for each cost, load,
 // delay and mark, 0 in use and 1 out.
-#[unsafe(no_mangle)]
-pub extern "C" fn rp_write_settings_marked(
+pub fn rp_write_settings_marked(
     unit: u32,
     tenancy: u32,
     rule: u32,
@@ -187,8 +184,7 @@ fn tenancy_of(tenancy: u32, copies: &[u8]) -> u32
 
 // Writes a read request of kind 2 or 4, with the age of the settings, for a unit of so many disks: eight bytes for each block, bit d
 // standing for disk d.
-#[unsafe(no_mangle)]
-pub extern "C" fn rp_write_request(
+pub fn rp_write_request(
     kind: u32,
     unit: u32,
     tenancy: u32,
@@ -211,8 +207,7 @@ pub extern "C" fn rp_write_request(
 }
 
 // Reads a plan sheet: a byte for each block's disk, two for each block of the short set.
-#[unsafe(no_mangle)]
-pub extern "C" fn rp_read_plan(
+pub fn rp_read_plan(
     unit: u32,
     tenancy: u32,
     sheet: &[u8],
