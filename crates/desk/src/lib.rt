@@ -1,4 +1,6 @@
 // The desk end: lists lent as bytes, one call, one packed answer. `desk_c` exports these functions to C.
+#![tactic(auto)]
+
 ghost use Rattle.std.specs.Prelude.{◌≡◌, ◌/◌, ◌≤◌, length};
 ghost use Rattle.basics.specs.Limits.{disks_most};
 ghost use Rattle.field.specs.Send.{Sent};
