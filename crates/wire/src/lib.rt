@@ -1,8 +1,12 @@
-// Standard input and output: what C's read and write did, told apart. What they read and write no promise can say.
-ghost use Rattle.std.specs.Prelude.{◌<◌, ◌≡◌, length};
+// Standard input and output: what a read and a write did, told apart. What they read and write no promise can say.
+#![tactic(auto)]
+
+ghost use Rattle.std.specs.Prelude.{◌<◌, ◌≤◌, ◌≡◌, length};
 ghost use Rattle.wire.specs.Input.{came, Reads, Fills};
 
-use libc::{EAGAIN, EINTR, STDIN_FILENO, STDOUT_FILENO};
+use std::fmt::Write;
+use std::io::{ErrorKind, Read};
+use std::{fmt, io, thread};
 
 // What one read came to: so many bytes; none yet; the end of the input; or it failed, and standard error says why.
 #[derive(Drop)]
@@ -21,38 +25,38 @@ pub enum Filled {
 }
 
 // One read behind the bytes that are there. An interrupted read, and an input that does not wait and has nothing, is no end.
-pub fn read_behind(buf: &mut [u8], have: usize) -> Input
+pub fn read_behind(rt: &impl Eprint, stdin: &mut impl Read, buf: &mut [u8], have: usize) -> Input
     requires { have < length buf.old }
     ensures { Reads buf.old have result buf.new }
 {
-    let got = libc::read(STDIN_FILENO, &mut buf[have..]);
-    if got > 0 {
-        return Input::Bytes(io::count(got, &buf[have..]));
+    match stdin.read(&mut buf[have..]) {
+        Ok(0) => Input::End,
+        Ok(n) => Input::Bytes(n),
+        Err(error) => failed(rt, error),
     }
-    if got == 0 {
-        return Input::End;
-    }
-    failed(os::errno())
 }
 
 // Why a read failed.
-fn failed(error: i32) -> Input
+#[tactic(auto, unfolding(crate::specs::Input::came))]
+fn failed(rt: &impl Eprint, error: io::Error) -> Input
     ensures { came result ≡ 0 }
 {
-    if error == EINTR {
-        return Input::Later;
+    match error.kind() {
+        ErrorKind::Interrupted => Input::Later,
+        ErrorKind::WouldBlock => {
+            thread::yield_now();
+            Input::Later
+        }
+        _ => {
+            say(rt, "standard input", error);
+            Input::Failed
+        }
     }
-    if error == EAGAIN {
-        libc::sched_yield();
-        return Input::Later;
-    }
-    os::fail(b"standard input");
-    Input::Failed
 }
 
 // Reads until the buffer is full or the input ends. A proved loop has to end, and nothing says that the input does: it counts its
 // reads down from a number that no run uses up.
-pub fn read_all(buf: &mut [u8]) -> Filled
+pub fn read_all(rt: &impl Eprint, stdin: &mut impl Read, buf: &mut [u8]) -> Filled
     ensures { Fills buf.old result buf.new }
 {
     let mut have: usize = 0;
@@ -61,7 +65,7 @@ pub fn read_all(buf: &mut [u8]) -> Filled
         if buf.len() <= have {
             return Filled::Bytes(have);
         }
-        match read_behind(buf, have) {
+        match read_behind(rt, stdin, buf, have) {
             Input::Bytes(n) => have += n,
             Input::Later => {}
             Input::End => return Filled::Bytes(have),
@@ -73,10 +77,89 @@ pub fn read_all(buf: &mut [u8]) -> Filled
 }
 
 // Writes all of a line; where that fails, standard error says why, and some of the line may have been written.
-pub fn print(line: &[u8]) -> bool {
-    if io::write_all(STDOUT_FILENO, line) {
-        return true;
+pub fn print(rt: &(impl Print + Eprint), line: &[u8]) -> bool {
+    match write_whole(rt, line) {
+        Ok(()) => true,
+        Err(error) => {
+            say(rt, "standard output", error);
+            false
+        }
     }
-    os::fail(b"standard output");
-    false
+}
+
+// A write that fails is not made again, not even one that a signal interrupts.
+fn write_whole(rt: &impl Print, line: &[u8]) -> io::Result<()> {
+    let mut done: usize = 0;
+    while done < line.len() {
+        let n = rt.write_some(&line[done..])?;
+        if n == 0 {
+            return Err(io::Error::from(ErrorKind::WriteZero));
+        }
+        done += n;
+    }
+    Ok(())
+}
+
+// A line to standard error: what failed, a colon and why. Where that line cannot be written, nothing is left to say it to.
+fn say(rt: &impl Eprint, what: &str, error: io::Error) {
+    let why = Why { error };
+    let _ = eprintln!(rt; "{what}: {why}");
+}
+
+// The words of an error, without its number.
+#[derive(Drop)]
+struct Why {
+    error: io::Error,
+}
+
+impl fmt::Display for Why {
+    fn fmt<W: fmt::Write>(&self, f: &mut fmt::Formatter<W>) -> fmt::Result {
+        let mut words = Words::new();
+        let error = self.error;
+        write!(words, "{error}")?;
+        f.write_str(words.before_number())
+    }
+}
+
+// What the library says of an error at most, and a good deal more.
+const WORDS_MOST: usize = 128;
+
+// Text that is kept as far as there is room.
+#[derive(Drop)]
+struct Words {
+    bytes: [u8; WORDS_MOST],
+    len: usize,
+}
+
+impl Words {
+    fn new() -> Words {
+        Words {
+            bytes: [0; WORDS_MOST],
+            len: 0,
+        }
+    }
+
+    // The text up to where the library begins to tell the error's number.
+    fn before_number(&self) -> &str {
+        let len = self.len.min(WORDS_MOST);
+        match std::str::from_utf8(&self.bytes[..len]) {
+            Ok(text) => match text.split_once(" (os error ") {
+                Some((words, _)) => words,
+                None => text,
+            },
+            Err(_) => "",
+        }
+    }
+}
+
+impl fmt::Write for Words {
+    fn write_str(&mut self, s: &str) -> fmt::Result {
+        for byte in s.bytes() {
+            if self.len < WORDS_MOST {
+                self.bytes[self.len] = byte;
+                self.len += 1;
+            }
+        }
+        Ok(())
+    }
 }
