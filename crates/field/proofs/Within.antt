@@ -6,15 +6,14 @@
 --     within_number, within_between, within_kind, within_opening, within_due, within_end     the fields
 --     within_times, within_ascending, within_whole     lists and a whole sheet
 --     place_inside     a sheet that is read from its first byte is refused at one of its bytes, or at its end
-use Prim.Native.Nat.{ℕ, zero, suc, ◌+◌, ◌*◌, ◌≤◌, ◌<◌}
+use Prim.Native.Nat.{ℕ, zero, suc, ◌+◌, ◌*◌, ◌≤◌}
 use mathlib.Core.Bool.{Bool}
 use mathlib.Core.Path.{◌≡◌, refl, subst}
 use mathlib.Core.List.{List, [], ◌∷◌}
 use native.Mathlib.Omega.{arith}
-use borrow.Author.Tests.{eqb-true, eqb-false}
+use borrow.Author.Tests.{eqb-true}
 use lib.Dec.{eqb}
 use lib.ListN.{length, drop, length-drop}
-use Rattle.basics.specs.Choice.{pick}
 use Rattle.basics.proofs.Choice.{pick_elim}
 use Rattle.number.specs.Decode.{Decoded, value, under, more, decode, refused as bad}
 use Rattle.field.specs.Sheet.{Note, note, Out, got, refused, Parser, and_then, ◌>>=◌, ◌>>◌, pure, here, require, times}

@@ -22,7 +22,7 @@ use Rattle.model.specs.Case.{Case, left, starting, base, in_use, Schedule, end_o
 use Rattle.model.specs.Shortfall.{touches, size, room, Sub, NoShorter, Greatest}
 use Rattle.model.specs.Order.{Agree, Before}
 use Rattle.model.specs.Plan.{Optimal}
-use Rattle.model.specs.Figures.{Disks, Figure, request, pulled, capacities, asked, Planned, Holds, AllHold, table}
+use Rattle.model.specs.Figures.{Figure, request, pulled, capacities, asked, Planned, Holds, AllHold, table}
 use Rattle.basics.specs.Lists.{listed}
 use Rattle.basics.proofs.Tests.{differ, and_left, and_right, and_both, below_suc}
 use Rattle.basics.proofs.Count.{any_here, any_ext, count_ext, latest_ext}

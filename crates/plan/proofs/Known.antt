@@ -1,6 +1,5 @@
 -- Every refusal of a plan sheet has one of the table's numbers.
 use Prim.Native.Nat.{ℕ, ◌-◌}
-use native.Mathlib.Omega.{arith}
 use mathlib.Core.List.{[], ◌∷◌}
 use Rattle.field.proofs.Known.{Numbered, numbered_bind, numbered_then, numbered_pure, numbered_times, numbered_inside, numbered_ascending}
 use Rattle.field.proofs.Known.{numbered_opening, numbered_whole, own_six, own_fifteen, own_sixteen}

@@ -1,6 +1,6 @@
 -- The longest settings sheets: 652 bytes, which are kind 1, unit 5, tenancy 5, N 1, and 64 rows of 3 + 4 + 3; on a sheet of kind 6 the rule
 -- and each mark are one more, 717 in all.
-use mathlib.Core.Path.{◌≡◌, refl, ap, ◌∙◌}
+use mathlib.Core.Path.{◌≡◌, refl, ap}
 use mathlib.Core.List.{List}
 use Prim.Native.Nat.{ℕ, ◌+◌, ◌*◌, ◌≤◌, ◌<◌}
 use native.Mathlib.Omega.{arith}

@@ -12,7 +12,7 @@ use Rattle.field.specs.declared.Refusal.TheVariants.{NoRoom}
 use Rattle.field.specs.declared.Verdict.{Verdict}
 use Rattle.field.specs.declared.Verdict.TheVariants.{Refused as Denied}
 use Rattle.field.specs.declared.Written.TheVariants.{Refused}
-use Rattle.field.specs.Send.{Draft, sheet, none, answer_to, Sent}
+use Rattle.field.specs.Send.{answer_to, Sent}
 use Rattle.field.specs.Sheet.{Note, got, refused}
 use Rattle.field.proofs.Sends.{Roomless, sent_enough}
 use Rattle.field.proofs.Within.{Within, within_bind, within_known, within_pure, within_more, within_between, within_opening}
@@ -25,7 +25,7 @@ use Rattle.settings.specs.Told.{told_by, Told}
 use Rattle.settings.specs.Draft.{sheet_draft}
 use Rattle.settings.proofs.Alone.{within_alone}
 use Rattle.settings.proofs.Accepted.{heading_disks}
-use Rattle.settings.proofs.Writing.{Sheeted, draft_either}
+use Rattle.settings.proofs.Writing.{draft_either}
 
 within_row : (k : ℕ) → Within 20 (row k)
 unfolding row mark

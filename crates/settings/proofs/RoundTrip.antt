@@ -4,10 +4,10 @@
 --     read_written, read_marked     the same of kinds 1 and 5, where all marks are 0, and of kind 6
 --     write_accepted, write_unmarked     writing what the reader accepted gives the same bytes, by its kind; of kinds 1 and 5 without marks
 --     written_accepted, written_unmarked     the same of the writer's buffer
-use mathlib.Core.Path.{◌≡◌, refl, sym, ap, ap₂, ◌∙◌, subst}
+use mathlib.Core.Path.{◌≡◌, refl, sym, ap, ap₂, ◌∙◌}
 use mathlib.Core.Bool.{true, false}
 use mathlib.Core.List.{List, [], ◌∷◌, ◌++◌, map}
-use Prim.Native.Nat.{ℕ, ◌-◌, ◌^◌, ◌≤◌, ◌<◌}
+use Prim.Native.Nat.{ℕ, ◌^◌, ◌≤◌, ◌<◌}
 use native.Mathlib.Omega.{arith}
 use lib.Dec.{eqb}
 use lib.ListN.{length, take, replicate, length-map}
@@ -32,7 +32,7 @@ use Rattle.model.specs.declared.Rule.{Rule}
 use Rattle.settings.specs.declared.Row.{Row}
 use Rattle.settings.specs.declared.Table.{Table}
 use Rattle.settings.specs.Row.{mark, row, all_in_range, mark_bytes, row_bytes}
-use Rattle.settings.specs.Table.{table, disk_rows, costs, loads, delays, marks}
+use Rattle.settings.specs.Table.{table, costs, loads, delays, marks}
 use Rattle.settings.specs.Sheet.{kinds, rule_in, rule, heading, body, fields, settings_sheet}
 use Rattle.settings.specs.Draft.{rows_of, kind_of, rule_number, rule_bytes, heading_bytes, sheet_bytes}
 use Rattle.settings.specs.Draft.{sheet_draft, settings_draft, marked_draft}

@@ -16,12 +16,10 @@ use borrow.Author.Tests.{le-leb, leb-true}
 use lib.Dec.{eqb, leb}
 use lib.ListN.{length, take, drop, get_or, length-append}
 use lib.Seq.{take-suc, take_all, split_at, length-take-le}
-use Rattle.basics.specs.Choice.{pick}
 use Rattle.basics.specs.Count.{bit}
 use Rattle.basics.specs.Limits.{disks_most, cost_most, load_most, delay_most}
 use Rattle.basics.specs.Lists.{All}
 use Rattle.basics.proofs.Count.{gate_true, gate_false, gate_some, gate_none, gate_most, bit_le}
-use Rattle.basics.proofs.Choice.{pick_elim}
 use Rattle.basics.proofs.Tests.{by_cases, not_here, and_left, and_right, and_both, second_false}
 use Rattle.number.specs.Encode.{encode, width_of}
 use Rattle.number.proofs.Encode.{width_bounds, width_top}

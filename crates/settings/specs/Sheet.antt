@@ -9,7 +9,7 @@
 use Rattle.std.specs.Prelude.{ℕ, List, [], ◌∷◌, eqb}
 use Rattle.basics.specs.Choice.{pick}
 use Rattle.basics.specs.Limits.{disks_most}
-use Rattle.field.specs.Sheet.{Parser, ◌>>=◌, ◌>>◌, pure, times}
+use Rattle.field.specs.Sheet.{Parser, ◌>>=◌, pure, times}
 use Rattle.field.specs.Field.{opening, inside, whole}
 use Rattle.model.specs.declared.Rule.{Rule}
 use Rattle.model.specs.declared.Rule.TheVariants.{Sum, Larger}

@@ -2,14 +2,14 @@
 --     Far               it ends within the bytes and at most so far on; where it wants more bytes, fewer than so many are there
 --     number_far, number_narrow, inside_far, sheet_far     each reader
 --     asked_longest     a call wants more bytes only while fewer than the longest call's are there
-use mathlib.Core.Path.{◌≡◌, refl, sym, ◌∙◌, subst}
+use mathlib.Core.Path.{◌≡◌, refl, sym, subst}
 use mathlib.Core.Bool.{Bool, true, false}
 use mathlib.Core.List.{List, [], ◌∷◌}
 use Prim.Native.Nat.{ℕ, zero, suc, ◌+◌, ◌≤◌, ◌<◌}
 use native.Mathlib.Omega.{arith}
-use borrow.Author.Tests.{eqb-true, eqb-false, ltb-true, ltb-false, leb-true, leb-false}
+use borrow.Author.Tests.{eqb-true, eqb-false, leb-true, leb-false}
 use lib.Dec.{eqb, leb, ltb}
-use lib.ListN.{length, take, drop, length-drop}
+use lib.ListN.{length, drop, length-drop}
 use Rattle.basics.specs.Limits.{request_most}
 use Rattle.basics.specs.Choice.{pick}
 use Rattle.number.specs.Decode.{Decoded, value, decode, more, under, refused as bad}

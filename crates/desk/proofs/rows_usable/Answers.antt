@@ -1,6 +1,4 @@
 -- `rows_usable`: the first list that is not usable decides.
-use borrow.Author.Rules.{rules}
-use borrow.Author.Tests.{not-true, not-false}
 use mathlib.Core.Path.{refl, sym, ◌∙◌}
 use Rattle.basics.proofs.Tests.{first_false}
 use Rattle.desk.specs.Desk.{usable_rows}

@@ -1,5 +1,4 @@
 -- `rp_read_plan`: the sheet is read into a list of our own, as long as the bytes have room for; what was read is then put into the bytes.
-use borrow.Author.Rules.{rules}
 use Rattle.basics.specs.Limits.{blocks_most}
 use Rattle.number.specs.Bytes.{Bytes}
 use Rattle.desk.proofs.Reading.{accepted, near, plans_small, room_part, pairs_fit, read_accepted, read_refused}

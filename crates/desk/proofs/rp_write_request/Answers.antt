@@ -1,6 +1,5 @@
 -- `rp_write_request`: the fields before the blocks are judged before the list is read; a list that ends inside a number is judged as
 -- tenancy 0. Where they are accepted, the draft is the numbers' own and its length fits.
-use borrow.Author.Rules.{rules}
 use mathlib.Core.Path.{sym, ap, ◌∙◌}
 use Rattle.lent.proofs.Over.{part_numbers, part_count, part_within}
 use Rattle.request.specs.Draft.{request_draft}

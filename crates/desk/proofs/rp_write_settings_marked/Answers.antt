@@ -1,7 +1,5 @@
 -- `rp_write_settings_marked`: a list that is broken or too long makes the draft 6; else the draft is the numbers' own, and its length fits.
-use borrow.Author.Rules.{rules}
 use native.Mathlib.Omega.{arith}
-use borrow.Author.Tests.{not-true, not-false}
 use mathlib.Core.Path.{sym, ◌∙◌}
 use Rattle.basics.specs.Limits.{disks_most}
 use Rattle.lent.proofs.Tests.{is_usable}

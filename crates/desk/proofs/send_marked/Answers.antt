@@ -1,5 +1,4 @@
 -- `send_marked`: the parts that are lent hold the numbers of the bytes, and the sheet's writer does the rest.
-use borrow.Author.Rules.{rules}
 use Rattle.desk.proofs.Writing.{marked_sent}
 use Rattle.lent.proofs.Over.{part_numbers, part_count}
 use Rattle.desk.proofs.send_marked.Goals as goal

@@ -1,5 +1,4 @@
 -- `send_settings`: the parts that are lent hold the numbers of the bytes, and the sheet's writer does the rest.
-use borrow.Author.Rules.{rules}
 use Rattle.desk.proofs.Writing.{settings_sent}
 use Rattle.lent.proofs.Over.{part_numbers, part_count}
 use Rattle.desk.proofs.send_settings.Goals as goal

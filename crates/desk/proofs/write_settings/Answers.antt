@@ -1,6 +1,4 @@
 -- `write_settings`: a list that is broken or too long makes the draft 6; else the draft is the numbers' own, and its length fits.
-use borrow.Author.Rules.{rules}
-use borrow.Author.Tests.{not-true, not-false}
 use mathlib.Core.Path.{sym, ◌∙◌}
 use Rattle.desk.proofs.Writing.{exported_refused, exported_sent, short_sent, rows_usable}
 use Rattle.desk.proofs.Writing.{settings_unusable, settings_usable, settings_drafted}

@@ -1,10 +1,7 @@
 -- The first i numbers of the list are others.
-use borrow.Author.Rules.{rules}
 use borrow.Author.Count.{below_more}
 use native.Mathlib.Omega.{arith}
-use mathlib.Core.Path.{◌≡◌, sym, ap, ◌∙◌}
-use Prim.Native.Nat.{ℕ, ◌-◌, ◌≤◌, ◌<◌}
-use lib.ListN.{length, get_or}
+use mathlib.Core.Path.{sym, ap, ◌∙◌}
 use Rattle.basics.specs.Lists.{listed}
 use Rattle.basics.proofs.Lists.{listed_at, listed_not}
 use Rattle.field.proofs.among.Goals as goal

@@ -1,11 +1,6 @@
-use borrow.Author.Rules.{rules}
-use borrow.Author.Count.{below_more}
-use native.Mathlib.Omega.{arith}
-use mathlib.Core.Path.{◌≡◌, sym, ap, ◌∙◌}
+use mathlib.Core.Path.{◌≡◌}
 use Prim.Native.Nat.{ℕ, ◌-◌, ◌≤◌, ◌<◌}
 use lib.ListN.{length, get_or}
-use Rattle.basics.specs.Lists.{listed}
-use Rattle.basics.proofs.Lists.{listed_at, listed_not}
 use Rattle.field.proofs.among.Given as goal
 
 abbrev pub invariant-loop-i : goal.invariant-loop-i

@@ -1,5 +1,4 @@
 -- Each return is one law of `between`.
-use borrow.Author.Rules.{rules}
 use mathlib.Core.Path.{sym}
 use Rattle.field.specs.Told.{told}
 use Rattle.field.proofs.Readers.{told_got, told_refused, between_got, between_above, between_under, between_stops}

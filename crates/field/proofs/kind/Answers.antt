@@ -1,5 +1,4 @@
 -- Each return is one law of `kind`.
-use borrow.Author.Rules.{rules}
 use mathlib.Core.Path.{sym, ◌∙◌}
 use Rattle.field.specs.Told.{told}
 use Rattle.field.proofs.Readers.{told_got, told_refused, kind_got, kind_other, kind_stops}

@@ -1,5 +1,4 @@
 -- What the number reader says of `&s[at..]` is what `number` says at the place.
-use borrow.Author.Rules.{rules}
 use native.Mathlib.Omega.{arith}
 use Prim.Native.Nat.{◌-◌}
 use lib.ListN.{length, drop, length-take}

@@ -1,6 +1,5 @@
 -- `number_of` meets its contract: each variant's number is the one that the definition gives it.
 use mathlib.Core.Path.{sym, ap}
-use borrow.Author.Rules.{rules}
 use Rattle.field.specs.Refusal.{number_of}
 use Rattle.field.proofs.number_of.Goals as goal
 

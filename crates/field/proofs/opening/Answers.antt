@@ -1,5 +1,4 @@
 -- The kind, then unit and tenancy at the place where it ended; the first refusal stands.
-use borrow.Author.Rules.{rules}
 use mathlib.Core.Path.{sym, ◌∙◌}
 use Rattle.field.specs.Told.{told}
 use Rattle.field.specs.Sheet.{pure}

@@ -1,5 +1,4 @@
 -- The number writer works in `&mut out[at..]`: `put_of`.
-use borrow.Author.Rules.{rules}
 use native.Mathlib.Omega.{arith}
 use Rattle.number.proofs.Encode.{wrote_fits}
 use Rattle.field.proofs.Puts.{put_past, put_of}

@@ -1,5 +1,4 @@
 -- `put_opening`: three fields, one behind the other.
-use borrow.Author.Rules.{rules}
 use Rattle.field.proofs.Opened.{opening_put}
 use Rattle.field.proofs.put_opening.Goals as goal
 

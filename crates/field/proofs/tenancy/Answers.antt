@@ -1,5 +1,4 @@
 -- Where none is due the range is empty; else it is that number alone.
-use borrow.Author.Rules.{rules}
 use mathlib.Core.Path.{◌∙◌}
 use Rattle.field.proofs.Readers.{tenancy_none, tenancy_due}
 use Rattle.field.proofs.tenancy.Goals as goal

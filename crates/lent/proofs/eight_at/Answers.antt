@@ -1,5 +1,4 @@
 -- `eight_at`: the low four bytes and the high four.
-use borrow.Author.Rules.{rules}
 use native.Mathlib.Omega.{arith}
 use Rattle.lent.proofs.Numbers.{number_split}
 use Rattle.lent.proofs.eight_at.Goals as goal

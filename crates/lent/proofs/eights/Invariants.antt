@@ -1,9 +1,6 @@
-use borrow.Author.Rules.{rules}
-use native.Mathlib.Omega.{arith}
-use Prim.Native.Nat.{ℕ, ◌-◌}
-use lib.ListN.{replicate, length-replicate}
-use Rattle.lent.proofs.Filling.{Gathered, gathered_start, gathered_step, gathered_done}
-use mathlib.Core.Path.{refl}
+use Prim.Native.Nat.{◌-◌}
+use lib.ListN.{replicate}
+use Rattle.lent.proofs.Filling.{Gathered}
 use Rattle.lent.proofs.eights.Given as goal
 
 abbrev pub invariant-loop-i : goal.invariant-loop-i

@@ -1,5 +1,4 @@
 -- `four_at`: the four bytes, one by one.
-use borrow.Author.Rules.{rules}
 use Rattle.lent.proofs.Numbers.{number_four}
 use Rattle.lent.proofs.four_at.Goals as goal
 

@@ -1,9 +1,8 @@
 -- `fours`: the loop that gathers numbers, at four bytes each.
-use borrow.Author.Rules.{rules}
 use native.Mathlib.Omega.{arith}
-use Prim.Native.Nat.{ℕ, ◌-◌}
-use lib.ListN.{replicate, length-replicate}
-use Rattle.lent.proofs.Filling.{Gathered, gathered_start, gathered_step, gathered_done}
+use Prim.Native.Nat.{ℕ}
+use lib.ListN.{length-replicate}
+use Rattle.lent.proofs.Filling.{gathered_start, gathered_step, gathered_done}
 use mathlib.Core.Path.{refl}
 use Rattle.lent.proofs.fours.Goals as goal
 

@@ -1,5 +1,4 @@
 -- `pack_plan`: Q and m of 11 bits and R of 31, each moved to its place, fit side by side.
-use borrow.Author.Rules.{rules}
 use native.Mathlib.Omega.{arith}
 use Rattle.lent.proofs.Packed.{small_head, near_not, packed_head, packed_not}
 use Rattle.lent.proofs.pack_plan.Goals as goal

@@ -1,5 +1,4 @@
 -- `pack_written`: a length of 32 bits, moved up by 32, fits; so does a place.
-use borrow.Author.Rules.{rules}
 use native.Mathlib.Omega.{arith}
 use Rattle.lent.proofs.Packed.{short_length, near_refusal, packed_length, packed_refusal}
 use Rattle.lent.proofs.pack_written.Goals as goal

@@ -1,8 +1,6 @@
 -- `put_pairs`: the loop that spreads numbers over two bytes each.
-use borrow.Author.Rules.{rules}
 use native.Mathlib.Omega.{arith}
-use Prim.Native.Nat.{◌-◌}
-use Rattle.lent.proofs.Filling.{Spread, spread_start, spread_length, spread_step, spread_done}
+use Rattle.lent.proofs.Filling.{spread_start, spread_length, spread_step, spread_done}
 use mathlib.Core.Path.{refl}
 use lib.ListN.{length-set}
 use Rattle.lent.proofs.put_pairs.Goals as goal

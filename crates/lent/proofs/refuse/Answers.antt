@@ -1,5 +1,4 @@
 -- `refuse`: a number of the table and a place of 32 bits, moved up by 32, fit side by side.
-use borrow.Author.Rules.{rules}
 use Rattle.lent.proofs.Packed.{refused_packs}
 use Rattle.lent.proofs.refuse.Goals as goal
 

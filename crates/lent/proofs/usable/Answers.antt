@@ -1,5 +1,4 @@
 -- `usable`: the two tests are the definition's.
-use borrow.Author.Rules.{rules}
 use Rattle.lent.proofs.Tests.{usable_broken, usable_whole}
 use Rattle.lent.proofs.usable.Goals as goal
 

@@ -1,5 +1,4 @@
 -- `digit`: the two rows of the definition.
-use borrow.Author.Rules.{rules}
 use mathlib.Core.Path.{sym}
 use Rattle.line.proofs.Digits.{digit_low, digit_high}
 use Rattle.line.proofs.digit.Goals as goal

@@ -1,5 +1,4 @@
 -- `numbered`: the word, the number, then the line feed.
-use borrow.Author.Rules.{rules}
 use Rattle.line.proofs.Adding.{adds_join}
 use Rattle.line.specs.Line.{feed}
 use Rattle.line.proofs.numbered.Goals as goal

@@ -1,5 +1,4 @@
 -- `placed`: the word, the number, the place, then the line feed.
-use borrow.Author.Rules.{rules}
 use Rattle.line.proofs.Adding.{adds_join}
 use Rattle.line.specs.Line.{feed}
 use Rattle.line.proofs.placed.Goals as goal

@@ -1,5 +1,4 @@
 -- `plain`: the word, then the line feed.
-use borrow.Author.Rules.{rules}
 use Rattle.line.proofs.Adding.{adds_join}
 use Rattle.line.specs.Line.{feed}
 use Rattle.line.proofs.plain.Goals as goal

@@ -1,5 +1,4 @@
 -- `plan_line`: counts above 1,024 give no line; else the fields and then the lists.
-use borrow.Author.Rules.{rules}
 use native.Mathlib.Omega.{arith}
 use Rattle.line.proofs.Lines.{many_disks, many_blocks, plan_printed}
 use Rattle.line.proofs.plan_line.Goals as goal

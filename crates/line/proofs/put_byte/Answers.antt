@@ -1,5 +1,4 @@
 -- `put_byte`: without room nothing was added; else one byte behind the others.
-use borrow.Author.Rules.{rules}
 use Rattle.line.proofs.Adding.{adds_past, adds_byte}
 use Rattle.line.proofs.put_byte.Goals as goal
 

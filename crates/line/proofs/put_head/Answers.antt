@@ -1,5 +1,4 @@
 -- `put_head`: the word and four numbers, one behind another.
-use borrow.Author.Rules.{rules}
 use Rattle.line.proofs.Adding.{adds_join, adds_none}
 use Rattle.line.specs.Line.{word_plan}
 use Rattle.field.specs.Put.{spell_all}

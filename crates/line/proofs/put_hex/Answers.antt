@@ -1,12 +1,8 @@
 -- `put_hex`. The loop's invariant: the pairs of the bytes passed stand behind what was there (`Adds`).
-use borrow.Author.Rules.{rules}
 use native.Mathlib.Omega.{arith}
 use Rattle.line.proofs.Adding.{adds_at, adds_start, adds_full, adds_whole, adds_pair, hex_length}
 use Rattle.line.specs.Text.{pair, hex}
-use Rattle.line.specs.Parts.{Adds}
-use Rattle.field.specs.Put.{spell_all}
-use lib.ListN.{length, take, length-set}
-use Prim.Native.Nat.{◌+◌, ◌*◌, ◌-◌, ◌≤◌}
+use lib.ListN.{length, length-set}
 use mathlib.Core.Path.{◌≡◌, refl}
 use Rattle.line.proofs.put_hex.Goals as goal
 

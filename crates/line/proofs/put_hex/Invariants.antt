@@ -1,12 +1,9 @@
-use borrow.Author.Rules.{rules}
-use native.Mathlib.Omega.{arith}
-use Rattle.line.proofs.Adding.{adds_at, adds_start, adds_full, adds_whole, adds_pair, hex_length}
-use Rattle.line.specs.Text.{pair, hex}
+use Rattle.line.specs.Text.{pair}
 use Rattle.line.specs.Parts.{Adds}
 use Rattle.field.specs.Put.{spell_all}
-use lib.ListN.{length, take, length-set}
+use lib.ListN.{length, take}
 use Prim.Native.Nat.{◌+◌, ◌*◌, ◌-◌, ◌≤◌}
-use mathlib.Core.Path.{◌≡◌, refl}
+use mathlib.Core.Path.{◌≡◌}
 use Rattle.line.proofs.put_hex.Given as goal
 
 abbrev pub invariant-loop-i : goal.invariant-loop-i

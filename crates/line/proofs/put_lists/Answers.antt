@@ -1,5 +1,4 @@
 -- `put_lists`: bar, disks, bar, blocks, line feed, one behind another.
-use borrow.Author.Rules.{rules}
 use Rattle.line.proofs.Adding.{adds_join}
 use Rattle.line.specs.Line.{bar, feed}
 use Rattle.line.proofs.put_lists.Goals as goal

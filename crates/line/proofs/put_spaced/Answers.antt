@@ -1,5 +1,4 @@
 -- `put_spaced`: a space, then the digits.
-use borrow.Author.Rules.{rules}
 use Rattle.line.specs.Text.{spaced}
 use Rattle.line.proofs.Adding.{adds_join}
 use Rattle.line.proofs.put_spaced.Goals as goal

@@ -1,12 +1,9 @@
-use borrow.Author.Rules.{rules}
-use native.Mathlib.Omega.{arith}
-use Rattle.line.proofs.Adding.{adds_none, adds_next, adds_whole, adds_same, spell_bytes}
 use Rattle.line.specs.Parts.{Adds}
 use Rattle.field.specs.Put.{spell_all}
 use lib.ListN.{length, take}
 use Prim.Native.Nat.{◌-◌, ◌≤◌}
 use mathlib.Core.List.{[], ◌∷◌}
-use mathlib.Core.Path.{◌≡◌, refl}
+use mathlib.Core.Path.{◌≡◌}
 use Rattle.line.proofs.put_text.Given as goal
 
 abbrev pub invariant-loop-i : goal.invariant-loop-i

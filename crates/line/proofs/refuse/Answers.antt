@@ -1,5 +1,4 @@
 -- `refuse`: the line of a refusal's number.
-use borrow.Author.Rules.{rules}
 use Rattle.line.proofs.Lines.{printed_same}
 use Rattle.line.specs.Line.{spoken}
 use Rattle.line.specs.declared.Word.TheVariants.{Refused}

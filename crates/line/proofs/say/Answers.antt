@@ -1,5 +1,4 @@
 -- `say`: each word is its own line; the buffer has room for the longest.
-use borrow.Author.Rules.{rules}
 use native.Mathlib.Omega.{arith}
 use Rattle.line.proofs.Lines.{said_word, said_number, said_placed}
 use Rattle.line.specs.Line.{spoken, word_rented, word_set, word_returned, word_refused, word_stopped, word_reason}

@@ -1,5 +1,4 @@
 -- `sheet_line`: the word, the sheet in hex, the line feed.
-use borrow.Author.Rules.{rules}
 use native.Mathlib.Omega.{arith}
 use Rattle.line.proofs.Lines.{long_sheet, sheet_printed}
 use Rattle.line.proofs.sheet_line.Goals as goal

@@ -1,5 +1,4 @@
 -- Each return is one law of `decode`, after what `groups` promises.
-use borrow.Author.Rules.{rules}
 use native.Mathlib.Omega.{arith}
 use mathlib.Core.Path.{sym}
 use Rattle.number.proofs.Decode.{told_is, decode_none, decode_one, decode_value, decode_bad, more_small}

@@ -1,5 +1,4 @@
 -- One byte and two in place are `wrote_one` and `wrote_two`; without room for them nothing has changed.
-use borrow.Author.Rules.{rules}
 use native.Mathlib.Omega.{arith}
 use lib.ListN.{length-set}
 use Rattle.number.proofs.Encode.{width_bounds, wrote_none, wrote_one, wrote_two, wrote_short}

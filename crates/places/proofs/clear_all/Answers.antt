@@ -1,5 +1,5 @@
 -- `places::clear_all` meets its contract.
-use Prim.Native.Nat.{ℕ, ◌+◌, ◌-◌, ◌≤◌}
+use Prim.Native.Nat.{ℕ, ◌+◌}
 use mathlib.Core.Path.{◌≡◌, subst}
 use Rattle.basics.specs.Limits.{blocks_most}
 use Rattle.places.proofs.Clearing.{Clearing, clearing_start, clearing_more, cleared}

@@ -1,8 +1,5 @@
-use Prim.Native.Nat.{ℕ, ◌+◌, ◌-◌, ◌≤◌}
-use mathlib.Core.Path.{◌≡◌, subst}
-use Rattle.basics.specs.Limits.{blocks_most}
-use Rattle.places.proofs.Clearing.{Clearing, clearing_start, clearing_more, cleared}
-use native.Mathlib.Omega.{arith}
+use Prim.Native.Nat.{◌-◌, ◌≤◌}
+use Rattle.places.proofs.Clearing.{Clearing}
 use Rattle.places.proofs.clear_all.Given as goal
 
 abbrev pub invariant-loop-b : goal.invariant-loop-b

@@ -1,11 +1,7 @@
 -- `places::lift` meets its contract. The measure: disks that are still to be looked at, and blocks that may still come off.
-use Prim.Native.Nat.{◌+◌, ◌-◌}
-use lib.ListN.{get_or}
-use Rattle.basics.specs.Limits.{blocks_most}
 use Rattle.places.specs.Places.{entry}
 use Rattle.places.proofs.Laws.{reads_most}
-use Rattle.places.proofs.Clearing.{Lifting, lifting_start, lifting_next, lifting_shifting, lifting_off, lifting_end, lifting_block}
-use borrow.Author.Rules.{rules}
+use Rattle.places.proofs.Clearing.{lifting_start, lifting_next, lifting_shifting, lifting_off, lifting_end, lifting_block}
 use native.Mathlib.Omega.{arith}
 use Rattle.places.proofs.lift.Goals as goal
 

@@ -1,11 +1,7 @@
 use Prim.Native.Nat.{◌+◌, ◌-◌}
 use lib.ListN.{get_or}
 use Rattle.basics.specs.Limits.{blocks_most}
-use Rattle.places.specs.Places.{entry}
-use Rattle.places.proofs.Laws.{reads_most}
-use Rattle.places.proofs.Clearing.{Lifting, lifting_start, lifting_next, lifting_shifting, lifting_off, lifting_end, lifting_block}
-use borrow.Author.Rules.{rules}
-use native.Mathlib.Omega.{arith}
+use Rattle.places.proofs.Clearing.{Lifting}
 use Rattle.places.proofs.lift.Given as goal
 
 abbrev pub invariant-loop-d : goal.invariant-loop-d

@@ -1,6 +1,5 @@
 -- `places::reopen` meets its contract.
 use Rattle.places.proofs.Room.{reopen_full, reopen_roomy}
-use borrow.Author.Rules.{rules}
 use Rattle.places.proofs.reopen.Goals as goal
 
 pub returns-then-caps-d : goal.returns-then-caps-d

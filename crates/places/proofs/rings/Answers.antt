@@ -1,9 +1,8 @@
 -- `places::rings` meets its contract.
-use Prim.Native.Nat.{ℕ, ◌+◌, ◌≤◌, ◌-◌}
+use Prim.Native.Nat.{ℕ, ◌+◌}
 use mathlib.Core.Path.{◌≡◌, subst}
 use Rattle.places.specs.Parts.{Begun}
 use Rattle.places.proofs.Clearing.{begun_more}
-use borrow.Author.Rules.{rules}
 use native.Mathlib.Omega.{arith}
 use Rattle.places.proofs.rings.Goals as goal
 

@@ -1,9 +1,5 @@
-use Prim.Native.Nat.{ℕ, ◌+◌, ◌≤◌, ◌-◌}
-use mathlib.Core.Path.{◌≡◌, subst}
+use Prim.Native.Nat.{◌+◌, ◌≤◌, ◌-◌}
 use Rattle.places.specs.Parts.{Begun}
-use Rattle.places.proofs.Clearing.{begun_more}
-use borrow.Author.Rules.{rules}
-use native.Mathlib.Omega.{arith}
 use Rattle.places.proofs.rings.Given as goal
 
 abbrev pub invariant-loop-d : goal.invariant-loop-d

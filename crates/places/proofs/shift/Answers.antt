@@ -7,7 +7,6 @@ use lib.Seq.{get_or-set_other}
 use Rattle.basics.specs.Limits.{blocks_most, nodes_most}
 use Rattle.ring.proofs.Walks.{bounded_set}
 use Rattle.places.proofs.Laws.{moved}
-use borrow.Author.Rules.{rules}
 use native.Mathlib.Omega.{arith}
 use Rattle.places.proofs.shift.Goals as goal
 

@@ -1,5 +1,4 @@
 -- `check`: the opening, Q and R, each at the place where the one before ended, and then the lists.
-use borrow.Author.Rules.{rules}
 use Rattle.plan.proofs.Reading.{bounds_time, check_opening, check_blocks, check_time, check_lists}
 use Rattle.plan.specs.Parts.{Checked}
 use Rattle.field.proofs.Values.{between_range}

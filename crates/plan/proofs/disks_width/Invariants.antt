@@ -1,12 +1,8 @@
-use borrow.Author.Rules.{rules}
-use native.Mathlib.Omega.{arith}
-use Prim.Native.Nat.{ℕ, ◌+◌, ◌-◌, ◌≤◌}
-use mathlib.Core.Path.{◌≡◌, ap, ◌∙◌}
-use lib.ListN.{length, take, get_or, length-take}
+use Prim.Native.Nat.{◌-◌, ◌≤◌}
+use mathlib.Core.Path.{◌≡◌}
+use lib.ListN.{length, take}
 use Rattle.number.specs.Encode.{encode}
-use Rattle.number.proofs.Encode.{width_bounds}
 use Rattle.field.specs.Put.{spell_all}
-use Rattle.plan.proofs.Writing.{width_none, width_next, width_all, numbers_bound}
 use Rattle.plan.proofs.disks_width.Given as goal
 
 abbrev pub invariant-loop-i : goal.invariant-loop-i

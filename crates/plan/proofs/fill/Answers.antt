@@ -1,5 +1,4 @@
 -- `fill`: either list is too short, or both are read from their places, which the frame says are good.
-use borrow.Author.Rules.{rules}
 use native.Mathlib.Omega.{arith}
 use Rattle.plan.proofs.Reading.{few_disks, few_members, received}
 use Rattle.plan.proofs.fill.Goals as goal

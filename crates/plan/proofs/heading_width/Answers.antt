@@ -1,5 +1,4 @@
 -- `heading_width`: no width is above five, so no sum wraps.
-use borrow.Author.Rules.{rules}
 use native.Mathlib.Omega.{arith}
 use Rattle.plan.proofs.Writing.{heading_length, width_small}
 use Rattle.plan.proofs.heading_width.Goals as goal

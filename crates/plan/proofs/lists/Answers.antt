@@ -1,5 +1,4 @@
 -- `lists`: the disks, the size and the short set with the end, each at the place where the one before ended.
-use borrow.Author.Rules.{rules}
 use Rattle.plan.proofs.Reading.{bounds_size, lists_disks, lists_size, lists_short, lists_done}
 use Rattle.plan.specs.Parts.{Checked}
 use Rattle.field.proofs.Values.{between_range}

@@ -1,10 +1,6 @@
 -- `put_disks`. The loop's invariant: the numbers passed were put, and nothing else.
-use borrow.Author.Rules.{rules}
 use native.Mathlib.Omega.{arith}
-use Prim.Native.Nat.{◌+◌, ◌-◌, ◌≤◌}
-use lib.ListN.{length, take}
-use Rattle.number.specs.Encode.{encode}
-use Rattle.field.specs.Put.{spell_all, Laid}
+use Rattle.field.specs.Put.{spell_all}
 use Rattle.field.proofs.Puts.{laid_none, laid_length}
 use Rattle.plan.proofs.Writing.{numbers_more, numbers_all}
 use Rattle.plan.proofs.put_disks.Goals as goal

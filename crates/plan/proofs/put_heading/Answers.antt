@@ -1,5 +1,4 @@
 -- `put_heading`: the opening, and Q and R behind it.
-use borrow.Author.Rules.{rules}
 use Rattle.plan.proofs.Writing.{opening_room, heading_laid}
 use Rattle.plan.proofs.put_heading.Goals as goal
 

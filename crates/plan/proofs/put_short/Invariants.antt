@@ -1,11 +1,7 @@
-use borrow.Author.Rules.{rules}
-use native.Mathlib.Omega.{arith}
 use Prim.Native.Nat.{◌+◌, ◌-◌, ◌≤◌}
 use lib.ListN.{length, take}
 use Rattle.number.specs.Encode.{encode}
 use Rattle.field.specs.Put.{spell_all, Laid}
-use Rattle.field.proofs.Puts.{laid_none, laid_length}
-use Rattle.plan.proofs.Writing.{numbers_more, numbers_all}
 use Rattle.plan.proofs.put_short.Given as goal
 
 abbrev pub invariant-loop-i : goal.invariant-loop-i

@@ -1,5 +1,4 @@
 -- `read`: a refused sheet leaves all as it was; of a whole one the frame says what the lists get.
-use borrow.Author.Rules.{rules}
 use Rattle.plan.proofs.Reading.{found_few, found_refused, found_whole}
 use Rattle.plan.proofs.read.Goals as goal
 

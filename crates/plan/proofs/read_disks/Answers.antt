@@ -1,16 +1,12 @@
 -- `read_disks`. The loop's invariant: the entries read so far stand in the list, and the sheet from here on gives the rest (`Filling`).
-use borrow.Author.Rules.{rules}
 use native.Mathlib.Omega.{arith}
 use Rattle.number.specs.Bytes.{Bytes}
-use Prim.Native.Nat.{◌-◌, ◌≤◌}
-use Rattle.field.specs.Sheet.{times}
-use Rattle.field.specs.Field.{inside}
+use Prim.Native.Nat.{◌-◌}
 use Rattle.field.proofs.Readers.{told_got, told_refused}
 use Rattle.field.proofs.Values.{between_range}
 use Rattle.field.proofs.Lists.{times_start, times_step, times_stop, times_done}
-use Rattle.plan.proofs.Reading.{Filling, filling_start, filling_step, filling_stop, filling_done}
+use Rattle.plan.proofs.Reading.{filling_start, filling_step, filling_stop, filling_done}
 use Rattle.basics.specs.Limits.{disks_most}
-use Rattle.plan.specs.Plan.{disk}
 use Rattle.plan.proofs.read_disks.Goals as goal
 
 pub loop-i-init : goal.loop-i-init

@@ -1,13 +1,10 @@
 -- `read_short`. The loop's invariant is that of `read_disks`, with the first number that rises.
-use borrow.Author.Rules.{rules}
 use native.Mathlib.Omega.{arith}
 use Rattle.number.specs.Bytes.{Bytes}
-use Prim.Native.Nat.{◌-◌, ◌≤◌}
-use Rattle.field.specs.Field.{ascending}
 use Rattle.field.proofs.Readers.{told_got, told_refused}
 use Rattle.field.proofs.Values.{between_range}
 use Rattle.field.proofs.Lists.{ascending_start, ascending_step, ascending_stop, ascending_done}
-use Rattle.plan.proofs.Reading.{Filling, filling_start, filling_step, filling_stop, filling_done}
+use Rattle.plan.proofs.Reading.{filling_start, filling_step, filling_stop, filling_done}
 use Rattle.plan.proofs.read_short.Goals as goal
 
 pub loop-i-init : goal.loop-i-init

@@ -1,12 +1,6 @@
-use borrow.Author.Rules.{rules}
-use native.Mathlib.Omega.{arith}
-use Rattle.number.specs.Bytes.{Bytes}
 use Prim.Native.Nat.{◌-◌, ◌≤◌}
 use Rattle.field.specs.Field.{ascending}
-use Rattle.field.proofs.Readers.{told_got, told_refused}
-use Rattle.field.proofs.Values.{between_range}
-use Rattle.field.proofs.Lists.{ascending_start, ascending_step, ascending_stop, ascending_done}
-use Rattle.plan.proofs.Reading.{Filling, filling_start, filling_step, filling_stop, filling_done}
+use Rattle.plan.proofs.Reading.{Filling}
 use Rattle.plan.proofs.read_short.Given as goal
 
 abbrev pub invariant-loop-i : goal.invariant-loop-i

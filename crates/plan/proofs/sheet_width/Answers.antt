@@ -1,5 +1,4 @@
 -- `sheet_width`: every part is small, so no sum wraps; their sum is the length of the sheet.
-use borrow.Author.Rules.{rules}
 use native.Mathlib.Omega.{arith}
 use Rattle.plan.specs.Plan.{plan_of}
 use Rattle.plan.proofs.Writing.{heading_small, bytes_length, width_small, widths_small}

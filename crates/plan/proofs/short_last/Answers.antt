@@ -1,5 +1,4 @@
 -- `short_last`: the blocks, and then the end of the sheet.
-use borrow.Author.Rules.{rules}
 use Rattle.plan.proofs.Reading.{last_end, last_stop}
 use Rattle.field.specs.Told.{told}
 use mathlib.Core.Path.{◌∙◌}

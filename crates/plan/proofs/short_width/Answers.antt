@@ -1,12 +1,9 @@
 -- `short_width`. The loop's invariant: the sum is the length of the numbers passed.
-use borrow.Author.Rules.{rules}
 use native.Mathlib.Omega.{arith}
-use Prim.Native.Nat.{ℕ, ◌+◌, ◌-◌, ◌≤◌}
-use mathlib.Core.Path.{◌≡◌, ap, ◌∙◌}
-use lib.ListN.{length, take, get_or, length-take}
-use Rattle.number.specs.Encode.{encode}
+use Prim.Native.Nat.{ℕ, ◌+◌}
+use mathlib.Core.Path.{ap, ◌∙◌}
+use lib.ListN.{take, get_or, length-take}
 use Rattle.number.proofs.Encode.{width_bounds}
-use Rattle.field.specs.Put.{spell_all}
 use Rattle.plan.proofs.Writing.{width_none, width_next, width_all, numbers_bound}
 use Rattle.plan.proofs.short_width.Goals as goal
 

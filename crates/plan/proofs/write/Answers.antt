@@ -1,5 +1,4 @@
 -- `write`: counts above 1,024, a buffer that is too short, or four parts one behind another.
-use borrow.Author.Rules.{rules}
 use native.Mathlib.Omega.{arith}
 use Rattle.plan.specs.Plan.{plan_of}
 use Rattle.plan.proofs.Writing.{many_disks, many_members, long_sent, heading_room, disks_room, short_room, sheet_sent}

@@ -1,5 +1,4 @@
 -- `age` meets its contract, by the two cases of the kind.
-use borrow.Author.Rules.{rules}
 use mathlib.Core.Path.{sym, ◌∙◌}
 use Rattle.field.specs.Told.{told}
 use Rattle.request.proofs.Reading.{age_four, age_none}

@@ -1,5 +1,4 @@
 -- `age_width` meets its contract, by the two cases of `age_bytes`.
-use borrow.Author.Rules.{rules}
 use mathlib.Core.Path.{sym, ap, ◌∙◌}
 use lib.ListN.{length}
 use Rattle.number.specs.Encode.{width_of}

@@ -1,12 +1,9 @@
 -- `blocks` meets its contract. The invariant is `Filling`: the first i blocks stand in the first i places, and the others are 0.
-use borrow.Author.Rules.{rules}
 use native.Mathlib.Omega.{arith}
-use Rattle.request.proofs.Reading.{Filling, filling_start, filling_step, filling_stop, filling_extra, filling_done, answered_of}
+use Rattle.request.proofs.Reading.{filling_start, filling_step, filling_stop, filling_extra, filling_done, answered_of}
 use Rattle.request.proofs.Reading.{copies_got, copies_refused}
 use Rattle.field.proofs.Readers.{told_got, told_refused}
 use mathlib.Core.Path.{refl}
-use Rattle.mask.specs.Has.{has}
-use Prim.Native.Nat.{◌-◌}
 use Rattle.request.proofs.blocks.Goals as goal
 
 pub loop-i-init : goal.loop-i-init

@@ -1,8 +1,7 @@
 -- `gather`: the loop over the disks of a block.
-use borrow.Author.Rules.{rules}
 use mathlib.Core.Path.{◌∙◌}
 use Rattle.request.specs.Parts.{told_copies}
-use Rattle.request.proofs.Reading.{Gathering, gathering_start, gathering_ends, gathering_stop, gathering_low, gathering_step}
+use Rattle.request.proofs.Reading.{gathering_start, gathering_ends, gathering_stop, gathering_low, gathering_step}
 use Rattle.request.proofs.Reading.{gathering_done}
 use Rattle.request.proofs.gather.Goals as goal
 

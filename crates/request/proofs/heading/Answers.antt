@@ -1,5 +1,4 @@
 -- `heading` meets its contract, by the laws of the heading: one for each part that can stop it.
-use borrow.Author.Rules.{rules}
 use mathlib.Core.Path.{sym}
 use Rattle.request.specs.Parts.{told_head}
 use Rattle.field.proofs.Readers.{told_got, told_refused}

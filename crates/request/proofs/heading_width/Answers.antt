@@ -1,5 +1,4 @@
 -- `heading_width` meets its contract: the parts are added up, five bytes each at the most.
-use borrow.Author.Rules.{rules}
 use native.Mathlib.Omega.{arith}
 use Rattle.number.proofs.Encode.{width_bounds}
 use Rattle.request.proofs.Aged.{age_bound}

@@ -1,7 +1,6 @@
 -- `judge` meets its contract, test by test, in field order.
-use borrow.Author.Rules.{rules}
 use mathlib.Core.Bool.{true}
-use mathlib.Core.Logic.{inl, inr, ⊎_elim}
+use mathlib.Core.Logic.{inl, inr}
 use mathlib.Core.Path.{◌≡◌}
 use Rattle.basics.specs.Lists.{listed}
 use Rattle.request.specs.Draft.{aged}

@@ -1,5 +1,4 @@
 -- `last` meets its contract, by the two cases of `last_disk`.
-use borrow.Author.Rules.{rules}
 use native.Mathlib.Omega.{arith}
 use Rattle.request.proofs.Reading.{last_few, last_all}
 use mathlib.Core.Path.{sym}

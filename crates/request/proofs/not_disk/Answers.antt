@@ -1,5 +1,4 @@
 -- `not_disk`: whatever number stands there is above the last disk.
-use borrow.Author.Rules.{rules}
 use mathlib.Core.Path.{refl}
 use Rattle.field.proofs.Readers.{told_got, told_refused}
 use Rattle.request.specs.Parts.{told_copies}

@@ -1,6 +1,4 @@
 -- `one_block` meets its contract, by the laws of a block: one whose copy count was read, and one where it was not.
-use borrow.Author.Rules.{rules}
-use native.Mathlib.Omega.{arith}
 use mathlib.Core.Path.{sym, ap, ◌∙◌}
 use Rattle.basics.specs.Limits.{copies_most}
 use Rattle.mask.specs.Has.{has}

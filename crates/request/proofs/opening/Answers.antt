@@ -1,5 +1,4 @@
 -- `opening` meets its contract, by the laws of the opening: one for each part that can stop it.
-use borrow.Author.Rules.{rules}
 use mathlib.Core.Path.{sym, ◌∙◌}
 use Rattle.field.specs.Told.{told}
 use Rattle.field.proofs.Readers.{told_got, told_refused}

@@ -1,5 +1,4 @@
 -- `put_age` meets its contract, by the two cases of `age_bytes`.
-use borrow.Author.Rules.{rules}
 use Rattle.request.proofs.Aged.{age_put, age_left}
 use Rattle.request.proofs.put_age.Goals as goal
 

@@ -1,5 +1,4 @@
 -- `put_block` meets its contract: the copy count is put, and the disks behind it.
-use borrow.Author.Rules.{rules}
 use Rattle.request.proofs.Writing.{block_room, block_put}
 use Rattle.request.proofs.put_block.Goals as goal
 

@@ -1,12 +1,9 @@
 -- `put_blocks` meets its contract. The invariant: the bytes of the first i blocks were written, and nothing else.
-use borrow.Author.Rules.{rules}
 use native.Mathlib.Omega.{arith}
 use Rattle.field.proofs.Puts.{laid_length, spell_room, laid_none}
 use Rattle.request.proofs.Writing.{blocks_more, blocks_all}
 use Rattle.request.specs.Draft.{block_bytes}
-use Rattle.field.specs.Put.{spell_all, Laid}
-use lib.ListN.{length, take}
-use Prim.Native.Nat.{◌+◌, ◌-◌, ◌≤◌}
+use Rattle.field.specs.Put.{spell_all}
 use Rattle.request.proofs.put_blocks.Goals as goal
 
 pub loop-i-init : goal.loop-i-init

@@ -1,7 +1,3 @@
-use borrow.Author.Rules.{rules}
-use native.Mathlib.Omega.{arith}
-use Rattle.field.proofs.Puts.{laid_length, spell_room, laid_none}
-use Rattle.request.proofs.Writing.{blocks_more, blocks_all}
 use Rattle.request.specs.Draft.{block_bytes}
 use Rattle.field.specs.Put.{spell_all, Laid}
 use lib.ListN.{length, take}

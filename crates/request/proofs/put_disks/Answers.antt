@@ -3,7 +3,7 @@ use borrow.Author.Rules.{rules}
 use Rattle.mask.proofs.Has.{clear_lt}
 use Rattle.basics.specs.Limits.{disks_most}
 use Rattle.mask.proofs.Zeros.{lowest_some, lowest_has}
-use Rattle.request.proofs.Writing.{Left, left_all, left_next, left_none}
+use Rattle.request.proofs.Writing.{left_all, left_next, left_none}
 use Rattle.request.proofs.put_disks.Goals as goal
 
 pub loop-rest-init : goal.loop-rest-init

@@ -1,5 +1,4 @@
 -- `put_heading` meets its contract: the opening, the age behind it, and Q behind that.
-use borrow.Author.Rules.{rules}
 use mathlib.Core.List.{◌++◌}
 use Rattle.number.specs.Encode.{encode}
 use Rattle.field.specs.Put.{opening_bytes}

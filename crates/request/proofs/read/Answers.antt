@@ -1,5 +1,4 @@
 -- `read` meets its contract: the heading, and then the blocks or its refusal.
-use borrow.Author.Rules.{rules}
 use native.Mathlib.Omega.{arith}
 use Rattle.request.proofs.Reading.{last_under, head_got, head_refused, heading_within, sheet_stops, answered_of, answered_sheet}
 use Rattle.request.proofs.read.Goals as goal

@@ -1,5 +1,4 @@
 -- `send` meets its contract: the length is added up first, so that 11 has changed nothing; then heading and blocks are put.
-use borrow.Author.Rules.{rules}
 use native.Mathlib.Omega.{arith}
 use Rattle.request.proofs.Aged.{age_bound}
 use Rattle.request.proofs.Writing.{heading_length, request_length, heading_room, blocks_room, request_sent}

@@ -1,5 +1,4 @@
 -- `write` meets its contract: what was judged of the heading, then what was told of the blocks' bytes.
-use borrow.Author.Rules.{rules}
 use mathlib.Core.Path.{◌∙◌}
 use lib.ListN.{length}
 use Rattle.field.proofs.Sends.{sent_refused}

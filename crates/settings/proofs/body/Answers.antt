@@ -1,11 +1,9 @@
 -- `settings::body`: the loop's invariant is `Rows`: what was read, then the definition of the rest. The measure is what is left of N.
-use mathlib.Core.Path.{◌≡◌, refl}
-use Prim.Native.Nat.{◌-◌}
+use mathlib.Core.Path.{refl}
 use native.Mathlib.Omega.{arith}
-use borrow.Author.Rules.{rules}
 use Rattle.field.proofs.Readers.{told_got, told_refused}
 use Rattle.settings.specs.Parts.{told_row}
-use Rattle.settings.proofs.Reading.{told_by_law, Rows, rows_start, rows_step, rows_stop, rows_extra, rows_told, told_none}
+use Rattle.settings.proofs.Reading.{told_by_law, rows_start, rows_step, rows_stop, rows_extra, rows_told, told_none}
 use Rattle.settings.proofs.body.Goals as goal
 
 pub loop-i-init : goal.loop-i-init

@@ -1,10 +1,6 @@
-use mathlib.Core.Path.{◌≡◌, refl}
+use mathlib.Core.Path.{◌≡◌}
 use Prim.Native.Nat.{◌-◌}
-use native.Mathlib.Omega.{arith}
-use borrow.Author.Rules.{rules}
-use Rattle.field.proofs.Readers.{told_got, told_refused}
-use Rattle.settings.specs.Parts.{told_row}
-use Rattle.settings.proofs.Reading.{told_by_law, Rows, rows_start, rows_step, rows_stop, rows_extra, rows_told, told_none}
+use Rattle.settings.proofs.Reading.{Rows}
 use Rattle.settings.proofs.body.Given as goal
 
 abbrev pub invariant-loop-i : goal.invariant-loop-i

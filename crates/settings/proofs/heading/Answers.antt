@@ -1,6 +1,5 @@
 -- `settings::heading`: one law of the reader for each field at which it may stop, and one for all that is before the rows.
 use mathlib.Core.Path.{sym}
-use borrow.Author.Rules.{rules}
 use Rattle.field.proofs.Readers.{told_got, told_refused}
 use Rattle.settings.specs.Parts.{told_head}
 use Rattle.settings.proofs.Reading.{heading_got, heading_stops, heading_out, heading_rule}

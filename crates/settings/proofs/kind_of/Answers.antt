@@ -1,6 +1,5 @@
 -- `settings::kind_of`: one kind for each rule, as the definition has it.
 use mathlib.Core.Path.{sym, ap}
-use borrow.Author.Rules.{rules}
 use Rattle.settings.specs.Draft.{kind_of}
 use Rattle.settings.proofs.kind_of.Goals as goal
 

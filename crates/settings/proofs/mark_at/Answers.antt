@@ -1,6 +1,5 @@
 -- `settings::mark_at`: of kind 6 the field, of any other kind 0.
 use mathlib.Core.Path.{refl, sym, ◌∙◌}
-use borrow.Author.Rules.{rules}
 use borrow.Author.Tests.{eq-eqb, ne_eqb}
 use Rattle.field.specs.Told.{told}
 use Rattle.settings.specs.Row.{mark}

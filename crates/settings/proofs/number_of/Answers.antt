@@ -1,6 +1,5 @@
 -- `settings::number_of`: one number for each rule, as the definition has it.
 use mathlib.Core.Path.{sym, ap}
-use borrow.Author.Rules.{rules}
 use Rattle.settings.specs.Draft.{rule_number}
 use Rattle.settings.proofs.number_of.Goals as goal
 

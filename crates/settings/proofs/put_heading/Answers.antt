@@ -1,5 +1,4 @@
 -- `settings::put_heading`: the opening, N behind it, and the rule's number behind that.
-use borrow.Author.Rules.{rules}
 use mathlib.Core.List.{◌++◌}
 use Rattle.number.specs.Encode.{encode}
 use Rattle.field.specs.Put.{opening_bytes}

@@ -1,5 +1,4 @@
 -- `settings::put_mark`: the mark on a sheet of kind 6, on any other nothing.
-use borrow.Author.Rules.{rules}
 use borrow.Author.Tests.{eq-eqb, ne_eqb}
 use Rattle.settings.specs.Row.{mark_bytes}
 use Rattle.settings.proofs.Alone.{lays_alone, lays_none}

@@ -1,5 +1,4 @@
 -- `settings::put_row`: three fields, and the mark behind them.
-use borrow.Author.Rules.{rules}
 use Rattle.settings.specs.Row.{row_bytes}
 use Rattle.settings.proofs.Writing.{fields_room, fields_laid}
 use Rattle.settings.proofs.put_row.Goals as goal

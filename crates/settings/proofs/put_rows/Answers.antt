@@ -1,10 +1,6 @@
 -- `settings::put_rows`: the loop's invariant is `RowsPut`: the bytes of the rows so far stand from the start on.
-use Prim.Native.Nat.{◌-◌}
-use borrow.Author.Rules.{rules}
-use lib.ListN.{length}
-use Rattle.settings.specs.Draft.{rows_of}
 use Rattle.field.proofs.Puts.{laid_length}
-use Rattle.settings.proofs.Writing.{RowsPut, puts_start, puts_room, puts_step, puts_done}
+use Rattle.settings.proofs.Writing.{puts_start, puts_room, puts_step, puts_done}
 use Rattle.settings.proofs.Rows.{level, rows_below, rows_end, row_of}
 use Rattle.settings.proofs.put_rows.Goals as goal
 

@@ -1,5 +1,4 @@
 -- `settings::read`: a sheet is its heading, then its rows and its end.
-use borrow.Author.Rules.{rules}
 use Rattle.settings.specs.Parts.{told_head}
 use Rattle.settings.proofs.Accepted.{heading_disks}
 use Rattle.settings.proofs.Reading.{told_by_law, told_none, read_told, read_stops}

@@ -1,6 +1,5 @@
 -- `settings::refuse` gives the refusal beside what `empty` promises.
 use mathlib.Core.Path.{ap}
-use borrow.Author.Rules.{rules}
 use Rattle.settings.specs.Parts.{refused_with}
 use Rattle.settings.specs.declared.Table.{Table}
 use Rattle.field.specs.declared.Verdict.TheVariants.{Refused}

@@ -1,6 +1,5 @@
 -- `settings::row_at`: one law of the reader for each field at which a row may stop, and one for a row that is read.
 use mathlib.Core.Path.{sym}
-use borrow.Author.Rules.{rules}
 use Rattle.field.proofs.Readers.{told_got, told_refused}
 use Rattle.settings.specs.Parts.{told_row}
 use Rattle.settings.proofs.Reading.{row_got, row_first, row_second, row_third, row_fourth}

@@ -1,6 +1,5 @@
 -- `settings::row_width`: a row that fails one of the tests is out of range; else its width is the sum of four.
 use native.Mathlib.Omega.{arith}
-use borrow.Author.Rules.{rules}
 use Rattle.number.proofs.Encode.{width_bounds}
 use Rattle.settings.proofs.Rows.{mark_small, row_unfit, row_fit}
 use Rattle.settings.proofs.row_width.Goals as goal

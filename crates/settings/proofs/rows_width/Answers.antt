@@ -1,11 +1,7 @@
 -- `settings::rows_width`: the loop's invariant is `Sized`: the rows so far are in range, and the sum is the length of their bytes.
-use Prim.Native.Nat.{◌-◌}
 use native.Mathlib.Omega.{arith}
-use borrow.Author.Rules.{rules}
-use lib.ListN.{length}
-use Rattle.settings.specs.Draft.{rows_of}
 use Rattle.settings.proofs.Rows.{level, rows_below, rows_end, row_of}
-use Rattle.settings.proofs.Rows.{Sized, sized_start, sized_small, sized_step, sized_stop, sized_done}
+use Rattle.settings.proofs.Rows.{sized_start, sized_small, sized_step, sized_stop, sized_done}
 use Rattle.settings.proofs.rows_width.Goals as goal
 
 pub loop-i-init : goal.loop-i-init

@@ -1,6 +1,5 @@
 -- `settings::rule_at`: of kind 6 the field, of kind 5 the larger, of any other kind the sum.
 use mathlib.Core.Path.{sym, ◌∙◌}
-use borrow.Author.Rules.{rules}
 use borrow.Author.Tests.{eq-eqb, ne_eqb}
 use Rattle.basics.proofs.Choice.{pick_true, pick_false}
 use Rattle.field.specs.Told.{told}

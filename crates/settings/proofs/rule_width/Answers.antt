@@ -1,6 +1,5 @@
 -- `settings::rule_width`: the bytes of the rule's number on a sheet of kind 6, on any other none.
 use mathlib.Core.Path.{◌∙◌}
-use borrow.Author.Rules.{rules}
 use borrow.Author.Tests.{eq-eqb, ne_eqb}
 use Rattle.settings.specs.Draft.{rule_bytes}
 use Rattle.settings.proofs.Alone.{alone_width, alone_none}

@@ -1,8 +1,6 @@
 -- `settings::send`: lists that don't fit, a rule or rows out of range, a sheet that is too long, and one that is written.
 use mathlib.Core.Path.{sym, ◌∙◌}
 use native.Mathlib.Omega.{arith}
-use borrow.Author.Rules.{rules}
-use borrow.Author.Tests.{not-true, not-false}
 use Rattle.number.proofs.Encode.{width_bounds}
 use Rattle.settings.proofs.Rows.{rows_small}
 use Rattle.settings.proofs.Writing.{lists_fit_law, rule_small, send_unfit, send_rule, send_out, send_long}

@@ -1,7 +1,6 @@
 -- `settings::write`: the sheet of the kind that says the rule, with as many marks 0 as there are disks.
 use native.Mathlib.Omega.{arith}
 use mathlib.Core.Path.{sym}
-use borrow.Author.Rules.{rules}
 use lib.Seq.{length-take-le}
 use Rattle.basics.proofs.Lists.{take_replicate}
 use Rattle.settings.proofs.Rules.{kind_listed, kind_small}

@@ -1,6 +1,5 @@
 -- `settings::write_marked`: the sheet of kind 6.
 use native.Mathlib.Omega.{arith}
-use borrow.Author.Rules.{rules}
 use Rattle.settings.proofs.write_marked.Goals as goal
 
 pub send-requires : goal.send-requires

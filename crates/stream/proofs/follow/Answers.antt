@@ -1,7 +1,5 @@
 -- `follow`: one law for each call's number.
-use borrow.Author.Rules.{rules}
 use Rattle.stream.proofs.Framing.{first, second, third, fourth, fifth, unknown_call}
-use Rattle.field.specs.Refusal.{number_of}
 use mathlib.Core.Path.{refl}
 use Rattle.stream.proofs.follow.Goals as goal
 

@@ -1,5 +1,4 @@
 -- `give_back`: the tenancy, or its refusal.
-use borrow.Author.Rules.{rules}
 use Rattle.stream.proofs.Framing.{return_framed, tenancy_stops}
 use Rattle.field.proofs.Readers.{told_got, told_refused}
 use Rattle.stream.proofs.give_back.Goals as goal

@@ -1,5 +1,4 @@
 -- `read_call`: the call's number, and what follows it.
-use borrow.Author.Rules.{rules}
 use Rattle.stream.proofs.Framing.{call_framed, call_stops}
 use Rattle.field.proofs.Readers.{told_got, told_refused}
 use Rattle.stream.proofs.read_call.Goals as goal

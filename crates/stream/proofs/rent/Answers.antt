@@ -1,5 +1,4 @@
 -- `rent`: the tenancy, or its refusal.
-use borrow.Author.Rules.{rules}
 use Rattle.stream.proofs.Framing.{rent_framed, tenancy_stops}
 use Rattle.field.proofs.Readers.{told_got, told_refused}
 use Rattle.stream.proofs.rent.Goals as goal

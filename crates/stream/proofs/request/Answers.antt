@@ -1,5 +1,4 @@
 -- `request`: the room, then the sheet; the first refusal stands.
-use borrow.Author.Rules.{rules}
 use Rattle.stream.proofs.Framing.{spans_part, spans_refused, request_framed, request_sheet_stops, request_stops}
 use Rattle.field.proofs.Readers.{told_got, told_refused}
 use Rattle.stream.proofs.request.Goals as goal

@@ -1,5 +1,4 @@
 -- `settings`: where the sheet stands, or its refusal.
-use borrow.Author.Rules.{rules}
 use Rattle.stream.proofs.Framing.{spans_part, spans_refused, settings_framed, settings_stops}
 use Rattle.stream.proofs.settings.Goals as goal
 

@@ -1,5 +1,4 @@
 -- `sheet`: the length is judged before its bytes are due; the part lies within the input.
-use borrow.Author.Rules.{rules}
 use native.Mathlib.Omega.{arith}
 use Rattle.stream.proofs.Framing.{length_within, sheet_past, sheet_spans, sheet_stops}
 use Rattle.stream.specs.Frame.{Spans}

@@ -1,5 +1,4 @@
 -- `why`: the block, the disk, then the sheet; the first refusal stands.
-use borrow.Author.Rules.{rules}
 use Rattle.stream.proofs.Framing.{spans_part, spans_refused, why_framed, why_sheet_stops, why_disk_stops, why_stops}
 use Rattle.field.proofs.Readers.{told_got, told_refused}
 use Rattle.stream.proofs.why.Goals as goal
