@@ -1,5 +1,7 @@
 // The search over disks and displaced blocks that finds room for one more block.
 // seats, counts, next, prev and out as in places; by has the blocks of a search, step by step.
+#![tactic(auto)]
+
 ghost use Rattle.std.specs.Prelude.{◌≡◌, true, false, ℕ, length};
 ghost use Rattle.basics.specs.Limits.{places_most};
 ghost use Rattle.mask.specs.Has.{has};
