@@ -1,4 +1,6 @@
 // As many blocks on disks as there is room for. seats, counts, next, prev and out as in places.
+#![tactic(auto)]
+
 ghost use Rattle.std.specs.Prelude.{◌≡◌, ◌+◌, ◌<◌, get_or};
 ghost use Rattle.fill.specs.Packed.{Packing, Packed};
 ghost use Rattle.fill.specs.Parts.{Ground};
