@@ -1,4 +1,6 @@
 // Capacities of disks at a time, and the first time at which some disks have room for more blocks.
+#![tactic(auto)]
+
 ghost use Rattle.std.specs.Prelude.{◌≡◌, ◌<◌, ◌≤◌, length};
 ghost use Rattle.basics.specs.Limits.{disks_most, blocks_most};
 ghost use Rattle.model.specs.Capacity.{capacity};
