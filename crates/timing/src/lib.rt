@@ -1,4 +1,6 @@
 // The least time, and the short set just before it.
+#![tactic(auto)]
+
 ghost use Rattle.std.specs.Prelude.{◌≡◌, ◌-◌, ◌<◌, ◌≤◌};
 ghost use Rattle.basics.specs.Limits.{blocks_most};
 ghost use Rattle.places.specs.Table.{Table, Copies};
