@@ -1,5 +1,7 @@
 // The first schedule in dictionary order, from any schedule.
 // cut has what is left of each block's copies, room the disks that have room, and the blocks that are not done stand in rings.
+#![tactic(auto)]
+
 ghost use Rattle.std.specs.Prelude.{◌<◌, ◌≤◌, ◌≡◌, get_or, length};
 ghost use Rattle.basics.specs.Limits.{disks_most, blocks_most};
 ghost use Rattle.order.specs.Ordered.{Scheduled, Ordered};
