@@ -2,7 +2,7 @@
 --     front_unique      two buffers that start with the same numbers, rising, and were the same behind them, are the same
 --     planned_unique    two answers with their buffers that meet the promise are equal
 use Prim.Native.Nat.{ℕ, ◌-◌, ◌<◌}
-use mathlib.Core.Path.{◌≡◌, refl, sym, ap, ap₂, ◌∙◌}
+use mathlib.Core.Path.{◌≡◌, sym, ap, ap₂, ◌∙◌}
 use mathlib.Core.Logic.{◌⊎◌, inl, inr}
 use mathlib.Core.List.{List}
 use native.Mathlib.Omega.{arith}

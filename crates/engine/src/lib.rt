@@ -1,4 +1,6 @@
 // A case in lent slices to its plan: the least time, the first schedule, the short set.
+#![tactic(auto)]
+
 ghost use Rattle.std.specs.Prelude.{◌≡◌, ℕ, ◌<◌, ◌≤◌, length, get_or};
 ghost use Rattle.basics.specs.Limits.{blocks_most};
 ghost use Rattle.timing.specs.Times.{Least};

@@ -1,0 +1,13 @@
+-- `engine::schedule` meets its contract.
+use Rattle.engine.proofs.Answers.{blank}
+use Rattle.engine.proofs.schedule.Goals as goal
+
+pub clear_all-requires : goal.clear_all-requires
+clear_all-requires c = c.requires.empty
+
+pub least-requires : goal.least-requires
+least-requires c =
+    blank c.requires c.clear_all.ensures
+
+pub returns : goal.returns
+returns c = c.least.ensures
