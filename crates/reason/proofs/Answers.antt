@@ -3,14 +3,14 @@
 --     is_later, is_not_kept, is_lower    by the least times of the forced case and of the kept one
 --     plan_disks, kept_low, kept_disks   what the copies are cut to: the plan's own disks
 use Prim.Native.Nat.{ℕ, ◌≤◌, ◌<◌}
-use mathlib.Core.Path.{◌≡◌, sym, subst}
+use mathlib.Core.Path.{◌≡◌, subst}
 use mathlib.Core.Bool.{true, false}
 use mathlib.Core.List.{List}
 use native.Mathlib.Omega.{arith}
 use lib.ListN.{length, get_or, take}
 use Rattle.basics.specs.Limits.{disks_most}
 use Rattle.mask.specs.Has.{has}
-use Rattle.model.specs.Case.{Case, HasTime, Schedule}
+use Rattle.model.specs.Case.{Case, Schedule}
 use Rattle.model.specs.Assignment.{Valid}
 use Rattle.model.specs.Time.{LeastTime}
 use Rattle.model.proofs.Existence.{plan_exists}

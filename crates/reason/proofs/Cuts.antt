@@ -1,14 +1,14 @@
 -- Copies cut in an array.
 --     forced_store               those of one block
 --     kept_start, kept_more      those of the earlier blocks, one after another
-use Prim.Native.Nat.{ℕ, ◌+◌, ◌≤◌, ◌<◌}
+use Prim.Native.Nat.{ℕ, ◌+◌, ◌<◌}
 use mathlib.Core.Path.{◌≡◌, refl, sym, ap, ◌∙◌}
 use mathlib.Core.List.{List}
 use native.Mathlib.Omega.{arith}
-use lib.Dec.{eqb, ltb}
+use lib.Dec.{eqb}
 use lib.ListN.{length, get_or, set, length-set}
 use lib.Seq.{get_or-set_same, get_or-set_other}
-use borrow.Author.Tests.{eqb-true, eqb-false, ltb-true, ltb-false}
+use borrow.Author.Tests.{eqb-true, eqb-false}
 use Rattle.basics.specs.Limits.{blocks_most}
 use Rattle.basics.proofs.Choice.{pick_true, pick_false}
 use Rattle.basics.proofs.Tests.{by_cases}

@@ -1,4 +1,6 @@
 // Why a plan reads a block from a disk, or doesn't. What each reason says is in specs/, that exactly one is true in proofs/.
+#![tactic(auto)]
+
 ghost use Rattle.std.specs.Prelude.{ℕ, ◌≤◌, ◌<◌, ◌≡◌, length, get_or};
 ghost use Rattle.basics.specs.Limits.{disks_most, blocks_most};
 ghost use Rattle.engine.specs.Spelled.{spelled, Spellable};
