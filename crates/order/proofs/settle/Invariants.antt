@@ -7,7 +7,8 @@ use Rattle.order.proofs.settle.Given as goal
 
 abbrev pub invariant-loop-lower : goal.invariant-loop-lower
 invariant-loop-lower l =
-    (l.initial.cut ≡ l.cut) × Sorting l.n l.q l.k l.free l.cut l.caps l.seats l.counts l.next l.prev l.out l.by l.dead × LowerCopies l.k l.cut l.seats l.dead l.lower
+    (l.initial.cut ≡ l.cut) × Sorting l.n l.q l.k l.free l.cut l.caps l.seats l.counts l.next l.prev l.out l.by l.dead
+    × LowerCopies l.k l.cut l.seats l.dead l.lower
 
 abbrev pub decreases-loop-lower : goal.decreases-loop-lower
 decreases-loop-lower l =

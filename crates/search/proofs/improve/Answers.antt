@@ -51,7 +51,8 @@ returns-then-d-lt-DISKS c =
     let a = c.args in
     let d = c.lowest-d.result in
     record {
-      drawn = shifted_drawn a.base p.seated p.free p.block (disk (goal.at.returns-then-d-lt-DISKS c).Then-d-lt-DISKS) p.off (copy (goal.at.returns-then-d-lt-DISKS c).Then-d-lt-DISKS)
+      drawn = shifted_drawn a.base p.seated p.free p.block
+          (disk (goal.at.returns-then-d-lt-DISKS c).Then-d-lt-DISKS) p.off (copy (goal.at.returns-then-d-lt-DISKS c).Then-d-lt-DISKS)
           (not_here (has a.base d) (λ t. differ (had (goal.at.returns-then-d-lt-DISKS c).Then-d-lt-DISKS) (p.base_full d t)))
           (not_here (has a.base a.n) (λ t. omega (arith, p.base_small a.n t))) c.shift.ensures;
       disk = disk (goal.at.returns-then-d-lt-DISKS c).Then-d-lt-DISKS;

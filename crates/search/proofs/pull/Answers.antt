@@ -67,7 +67,8 @@ loop-d-smaller-then-held c = omega (arith, left (goal.at.loop-d-smaller-then-hel
 pub loop-d-preserved-then-held : goal.loop-d-preserved-then-held
 loop-d-preserved-then-held c = (
   omega (arith, c.loop-d.invariant.0),
-  hand_move c.requires c.loop-d.invariant.1 c.loop-d-test.true c.loop-d.invariant.0 c.if-seats-y.true (copy (goal.at.loop-d-preserved-then-held c).Then-held)
+  hand_move c.requires c.loop-d.invariant.1 c.loop-d-test.true c.loop-d.invariant.0 c.if-seats-y.true
+      (copy (goal.at.loop-d-preserved-then-held c).Then-held)
       c.shift-d.ensures,
 )
 

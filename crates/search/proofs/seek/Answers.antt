@@ -88,7 +88,8 @@ visit-reach-requires c =
       row = ringed_row p.seated.ringed d (omega (arith, chosen-disk (goal.at.visit-reach-requires c).After-lowest-d));
       seeks = c.search.invariant.0.seeks;
       reached = chosen-reached (goal.at.visit-reach-requires c).After-lowest-d;
-      beyond = beyond p c.search.invariant.0 d c.without-rest.result c.without-rest.ensures (chosen (goal.at.visit-reach-requires c).After-lowest-d);
+      beyond = beyond p c.search.invariant.0 d c.without-rest.result c.without-rest.ensures
+          (chosen (goal.at.visit-reach-requires c).After-lowest-d);
       low = p.kept.small;
       far = c.search.invariant.2;
     }
@@ -125,4 +126,7 @@ returns-then-rest-eq0 c =
 
 pub returns-then-f-lt-DISKS : goal.returns-then-f-lt-DISKS
 unfolding Sought
-returns-then-f-lt-DISKS c = let v = visited (goal.at.returns-then-f-lt-DISKS c).Joined-without-ne0 (chosen-disk (goal.at.returns-then-f-lt-DISKS c).After-lowest-d) in (v.found c.if-f-lt-DISKS.true, v.far, v.long)
+returns-then-f-lt-DISKS c =
+    let v = visited (goal.at.returns-then-f-lt-DISKS c).Joined-without-ne0
+    (chosen-disk (goal.at.returns-then-f-lt-DISKS c).After-lowest-d) in
+    (v.found c.if-f-lt-DISKS.true, v.far, v.long)

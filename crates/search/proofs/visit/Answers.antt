@@ -54,7 +54,8 @@ returns-then-f-lt-DISKS c =
       long = length-set c.loop-y.by c.loop-y.steps c.loop-y.y ∙ c.loop-y.invariant.seeks.long;
       found = λ _. (
         omega (arith, few (goal.at.returns-then-f-lt-DISKS c).Then-fresh-ne0),
-        seeks_way (turn (goal.at.returns-then-f-lt-DISKS c).Then-fresh-ne0) f.result (and_left (has w f.result) (has c.args.room f.result) g),
+        seeks_way (turn (goal.at.returns-then-f-lt-DISKS c).Then-fresh-ne0) f.result
+            (and_left (has w f.result) (has c.args.room f.result) g),
         and_right (has w f.result) (has c.args.room f.result) g,
       );
       seeks = λ h. absurd (omega (arith, h, c.if-f-lt-DISKS.true));
@@ -79,7 +80,8 @@ returns-then-without-eq0 c =
       quiet = λ _ i h k o x t. inside_zero (get_or a.out.now a.d 0) e.result u.result u.ensures c.if-without-eq0.true x
           (subst (λ (j : ℕ). has (get_or a.out.now j 0) x ≡ true) o
           (c.requires.far.each i h k (subst (λ (j : ℕ). j < a.n) (sym o) c.requires.disk) x t));
-      more = λ _ x t. up (turn (goal.at.returns-then-without-eq0 c).Then-fresh-ne0) e.result e.ensures (omega (arith, e.type_inv)) x (c.loop-y.invariant.more x t);
+      more = λ _ x t. up (turn (goal.at.returns-then-without-eq0 c).Then-fresh-ne0) e.result e.ensures (omega (arith, e.type_inv)) x
+          (c.loop-y.invariant.more x t);
     }
 
 pub overflow_cast-y-in-loop-y : goal.overflow_cast-y-in-loop-y
