@@ -1,4 +1,6 @@
 // What a unit holds (its number, its tenancy, its table) and a request sheet, to the case that they spell, and to its plan.
+#![tactic(auto)]
+
 ghost use Rattle.std.specs.Prelude.{ℕ, ◌+◌, ◌≤◌, ◌<◌, ◌≡◌, length};
 ghost use Rattle.basics.specs.Limits.{disks_most, blocks_most};
 ghost use Rattle.mask.specs.Has.{has};
@@ -19,7 +21,7 @@ use request::Answer;
 use settings::Table;
 
 // What was asked: Q or the refusal; N, the copies of each block, the cost and the start of each disk. All else is 0, and on refusal all is.
-#[derive(Drop)]
+#[derive(Clone, Copy)]
 pub struct Spelling {
     pub answer: Answer,
     pub disks: usize,

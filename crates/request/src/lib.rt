@@ -31,7 +31,7 @@ pub enum Answer {
 
 // The answer, the kind, the age of the settings in microseconds, and a number of copies for each block, bit d standing for disk d: 0 from Q
 // on, and all 0 on refusal.
-#[derive(Drop)]
+#[derive(Clone, Copy)]
 pub struct Request {
     pub answer: Answer,
     pub kind: u32,

@@ -17,7 +17,7 @@ use unit::{Done, Unit};
 use why::Why;
 
 // A unit as a process: its number is due first, and then its calls.
-#[derive(Drop)]
+#[derive(Clone, Copy)]
 pub struct Shelf {
     unit: Unit,
     opened: bool,
@@ -32,7 +32,7 @@ pub enum Next {
 }
 
 // What a turn comes to: the bytes used, the length of the line, and the shelf afterwards.
-#[derive(Drop)]
+#[derive(Clone, Copy)]
 pub struct Turn {
     pub next: Next,
     pub used: usize,

@@ -30,7 +30,7 @@ pub struct Row {
 }
 
 // N disks, and when they start; the rows from N on are 0.
-#[derive(Drop)]
+#[derive(Clone, Copy)]
 pub struct Table {
     pub disks: u32,
     pub rule: Rule,
@@ -38,7 +38,7 @@ pub struct Table {
 }
 
 // What reading a sheet gives; on refusal the table is empty.
-#[derive(Drop)]
+#[derive(Clone, Copy)]
 pub struct Settings {
     pub answer: Verdict,
     pub table: Table,

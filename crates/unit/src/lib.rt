@@ -1,4 +1,6 @@
 // The unit's life: each call takes the unit and hands the unit back.
+#![tactic(auto)]
+
 ghost use Rattle.std.specs.Prelude.{◌≡◌, length};
 ghost use Rattle.planner.specs.Lists.{Asks};
 ghost use Rattle.unit.specs.Life.{rent, set, give_back};
@@ -12,7 +14,7 @@ use planner::Spelling;
 use settings::Table;
 
 // A unit's number, the last tenancy accepted, whether it is rented, and its table of disks.
-#[derive(Drop)]
+#[derive(Clone, Copy)]
 pub struct Unit {
     number: u32,
     last: u32,
@@ -21,14 +23,14 @@ pub struct Unit {
 }
 
 // What a call answers, with the unit afterwards.
-#[derive(Drop)]
+#[derive(Clone, Copy)]
 pub struct Done {
     pub answer: Verdict,
     pub unit: Unit,
 }
 
 // What a read request answers, the length of the plan sheet written or the refusal, with the unit afterwards.
-#[derive(Drop)]
+#[derive(Clone, Copy)]
 pub struct Requested {
     pub answer: Written,
     pub unit: Unit,

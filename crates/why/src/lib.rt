@@ -23,7 +23,7 @@ pub enum Why {
 }
 
 // What the call answers, with the unit afterwards.
-#[derive(Drop)]
+#[derive(Clone, Copy)]
 pub struct Reasoned {
     pub answer: Why,
     pub unit: Unit,

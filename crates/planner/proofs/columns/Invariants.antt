@@ -1,0 +1,15 @@
+use borrow.Author.Rules.{rules}
+use native.Mathlib.Omega.{arith}
+use mathlib.Core.Path.{refl, ap, ◌∙◌}
+use Prim.Native.Nat.{◌-◌}
+use Rattle.basics.specs.Limits.{disks_most}
+use Rattle.model.specs.Case.{starting}
+use Rattle.planner.specs.Asked.{start_of}
+use Rattle.planner.proofs.Rows.{UpTo, upto_start, upto_step, upto_done, wait_small}
+use Rattle.planner.proofs.columns.Given as goal
+
+abbrev pub invariant-loop-i : goal.invariant-loop-i
+invariant-loop-i l = UpTo l.table.rule l.age l.rows l.costs l.starts l.i
+
+abbrev pub decreases-loop-i : goal.decreases-loop-i
+decreases-loop-i l = disks_most - l.i

@@ -1,0 +1,23 @@
+-- Row by row the disks that are out are put into one number: `Gathered`.
+use borrow.Author.Rules.{rules}
+use native.Mathlib.Omega.{arith}
+use mathlib.Core.Path.{refl}
+use mathlib.Core.Logic.{⊎_elim}
+use Prim.Native.Nat.{◌-◌}
+use Rattle.basics.specs.Limits.{disks_most}
+use Rattle.planner.proofs.Cut.{Gathered, gathered_start, gathered_out, gathered_in, gathered_done}
+use Rattle.planner.proofs.out_of.Goals as goal
+
+pub loop-i-init : goal.loop-i-init
+loop-i-init c = gathered_start _
+
+pub loop-i-preserved : goal.loop-i-preserved
+loop-i-preserved c =
+    let w = c.loop-i.invariant in
+    ⊎_elim
+    (λ u. gathered_out _ c.loop-i-test.true refl w (omega (arith, u.0.taken)) u.2 u.1.ensures)
+    (λ u. gathered_in _ c.loop-i-test.true refl w (λ z. omega (arith, u.0.left)) u.1)
+    c.if-row-eq1.branch
+
+pub returns : goal.returns
+returns c = gathered_done c.requires c.loop-i-test.false c.loop-i.invariant
