@@ -6,7 +6,7 @@ ghost use Rattle.wire.specs.Input.{came, Reads, Fills};
 
 use std::fmt::Write;
 use std::io::{ErrorKind, Read};
-use std::{fmt, io, thread};
+use std::{fmt, io};
 
 // What one read came to: so many bytes; none yet; the end of the input; or it failed, and standard error says why.
 #[derive(Drop)]
@@ -42,11 +42,7 @@ fn failed(rt: &impl Eprint, error: io::Error) -> Input
     ensures { came result ≡ 0 }
 {
     match error.kind() {
-        ErrorKind::Interrupted => Input::Later,
-        ErrorKind::WouldBlock => {
-            thread::yield_now();
-            Input::Later
-        }
+        ErrorKind::Interrupted | ErrorKind::WouldBlock => Input::Later,
         _ => {
             say(rt, "standard input", error);
             Input::Failed
