@@ -1,4 +1,6 @@
 // The bench: reads unit, tenancy, settings sheet and read request from standard input, and prints one line.
+#![tactic(auto)]
+
 ghost use Rattle.std.specs.Prelude.{◌≤◌, ◌<◌, length};
 ghost use Rattle.console.specs.Bench.{input_most};
 ghost use Rattle.bench.specs.Parts.{Answers};
@@ -18,11 +20,12 @@ fn answer(input: &[u8], n: usize, line: &mut Line) -> usize
     console::bench(&input[..n], line)
 }
 
-fn main() {
+fn main(rt: HostRuntime) {
     let mut input = [0u8; BUFFER];
     let mut line = [0u8; LINE_MOST];
-    if let Filled::Bytes(n) = wire::read_all(&mut input) {
+    let mut stdin = rt.stdin();
+    if let Filled::Bytes(n) = wire::read_all(&rt, &mut stdin, &mut input) {
         let length = answer(&input, n, &mut line);
-        wire::print(&line[..length]);
+        wire::print(&rt, &line[..length]);
     }
 }

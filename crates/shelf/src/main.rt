@@ -1,4 +1,6 @@
 // The shelf: a unit as a process. It reads the unit's number and then calls to the end of input, and prints a line for each at once.
+#![tactic(auto)]
+
 ghost use Rattle.std.specs.Prelude.{◌≤◌, length};
 ghost use Rattle.shelf.specs.Parts.{Shifts};
 
@@ -26,7 +28,8 @@ fn shift(buf: &mut [u8], used: usize, have: usize) -> usize
 
 // A turn, its line, and then the next bytes, until nothing follows or a line is lost. A proved loop has to end, and nothing says
 // that the input does: it counts its turns down from a number that no run uses up.
-fn main() {
+fn main(rt: HostRuntime) {
+    let mut stdin = rt.stdin();
     let mut buf = [0u8; BUFFER];
     let mut line = [0u8; LINE_MOST];
     let mut shelf = Shelf::new();
@@ -36,7 +39,7 @@ fn main() {
     while turns > 0 {
         let turn = service::serve(shelf, &buf[..have], ended, &mut line);
         let length = turn.length;
-        if !wire::print(&line[..length]) {
+        if !wire::print(&rt, &line[..length]) {
             return;
         }
         let next = turn.next;
@@ -44,7 +47,7 @@ fn main() {
         shelf = turn.shelf;
         match next {
             Next::Served => have = shift(&mut buf, used, have),
-            Next::Wants => match wire::read_behind(&mut buf, have) {
+            Next::Wants => match wire::read_behind(&rt, &mut stdin, &mut buf, have) {
                 Input::Bytes(n) => have += n,
                 Input::Later => {}
                 Input::End => ended = true,
