@@ -5,13 +5,13 @@ use Rattle.planner.proofs.ask.Goals as goal
 
 pub keep-requires : goal.keep-requires
 keep-requires c =
-    keepable _ _ c.requires _ _ c.out_of_lem.ensures c.read-said.ensures c.in-Accepted.is
+    keepable _ _ c.requires _ _ c.out_of-out.ensures c.read-said.ensures c.in-Accepted.is
 
 pub returns-in-Accepted : goal.returns-in-Accepted
 returns-in-Accepted c =
-    asks_case _ _ c.requires _ _ c.out_of_lem.ensures c.read-said.ensures c.in-Accepted.is c.keep.ensures
+    asks_case _ _ c.requires _ _ c.out_of-out.ensures c.read-said.ensures c.in-Accepted.is c.keep.ensures
     c.columns.ensures
 
 pub returns-in-Refused : goal.returns-in-Refused
 returns-in-Refused c =
-    asks_refused _ _ c.requires _ _ c.out_of_lem.ensures c.read-said.ensures c.in-Refused.is
+    asks_refused _ _ c.requires _ _ c.out_of-out.ensures c.read-said.ensures c.in-Refused.is

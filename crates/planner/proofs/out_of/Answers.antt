@@ -7,6 +7,7 @@ use Prim.Native.Nat.{◌-◌}
 use Rattle.basics.specs.Limits.{disks_most}
 use Rattle.planner.proofs.Cut.{Gathered, gathered_start, gathered_out, gathered_in, gathered_done}
 use Rattle.planner.proofs.out_of.Goals as goal
+use Rattle.planner.proofs.out_of.Goals.{then-row-eq1, else-row-eq1}
 
 pub loop-i-init : goal.loop-i-init
 loop-i-init c = gathered_start _
@@ -14,10 +15,10 @@ loop-i-init c = gathered_start _
 pub loop-i-preserved : goal.loop-i-preserved
 loop-i-preserved c =
     let w = c.loop-i.invariant in
-    ⊎_elim
-    (λ u. gathered_out _ c.loop-i-test.true refl w (omega (arith, u.0.taken)) u.2 u.1.ensures)
-    (λ u. gathered_in _ c.loop-i-test.true refl w (λ z. omega (arith, u.0.left)) u.1)
-    c.if-row-eq1.branch
+    elim c.if-row-eq1.branch [
+      | then-row-eq1 u ↦ gathered_out _ c.loop-i-test.true refl w (omega (arith, u.if-row-eq1.true)) u.out-is u.put-out.ensures
+      | else-row-eq1 u ↦ gathered_in _ c.loop-i-test.true refl w (λ z. omega (arith, u.if-row-eq1.false)) u.out-is
+    ]
 
 pub returns : goal.returns
 returns c = gathered_done c.requires c.loop-i-test.false c.loop-i.invariant
