@@ -1,4 +1,6 @@
 // The bench: an input of unit, tenancy, settings sheet and read request to its line.
+#![tactic(auto)]
+
 ghost use Rattle.console.specs.Bench.{bench_input, Tells};
 ghost use Rattle.console.specs.Bench.{hire as hire_of};
 ghost use Rattle.console.specs.Bench.{apply as apply_of};

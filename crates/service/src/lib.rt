@@ -1,4 +1,6 @@
 // The shelf's service: a turn of the shelf from the start of what has been read so far, done by the unit.
+#![tactic(auto)]
+
 ghost use Rattle.std.specs.Prelude.{◌≤◌, true, false, ◌&&◌, ◌≡◌, eqb, length};
 ghost use Rattle.stream.specs.Call.{room_most};
 ghost use Rattle.field.specs.Refusal.{note_of};

@@ -1,5 +1,4 @@
 pub mod Within
 pub mod Answers
 pub mod Unique
-pub mod Timed
 pub mod Out

@@ -1,4 +1,6 @@
 // Why a plan of a unit reads a block from a disk, or doesn't.
+#![tactic(auto)]
+
 ghost use Rattle.std.specs.Prelude.{ℕ, ◌≡◌};
 ghost use Rattle.planner.specs.Parts.{case_lent};
 ghost use Rattle.reason.specs.Reason.{Reasons};

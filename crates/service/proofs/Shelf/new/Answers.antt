@@ -5,12 +5,8 @@ use Rattle.unit.specs.declared.Unit.{Unit}
 use Rattle.service.specs.declared.Shelf.{Shelf}
 use Rattle.service.specs.Shelf.{closed}
 use mathlib.Core.Bool.{false}
-use Rattle.service.proofs.Shelf.new.Statement.{statement}
-use Rattle.service.proofs.Shelf.new.Tie as tie
+use Rattle.service.proofs.Shelf.new.Goals as goal
 
-returns : tie.Need-returns
+pub returns : goal.returns
 unfolding closed
 returns c = ap {B = Shelf} (λ (u : Unit). record { unit = u; opened = false }) c.new.ensures
-
-pub new_spec : {M : Type 1} → statement M
-new_spec = tie.close (tie.spec (λ c κs. search rules) returns)
