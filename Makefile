@@ -1,5 +1,5 @@
-# make plan      builds the bench program and runs the example of document 01 (the first time it proves for two minutes)
-# make test      every test: the host tests, then the proofs, the must-fail edits and the programs' runs
+# make plan      builds the bench program and runs the example of document 01 (the first time it proves for some minutes)
+# make test      every test: the proofs, the must-fail edits and the programs' runs, then the host tests
 # make tools     the desk's and the tenant's programs, in C
 # make lines     the proved programs on outputs and inputs that fail: no line is lost
 # make hire      an example hire from end to end: desk, shelf, tenant
@@ -29,10 +29,10 @@ need-cc = $(call need,$(firstword $(CC)),it builds the desk and tenant programs;
 need-cargo = $(call need,$(CARGO),it builds the second program that the tests compare with; install Rust's cargo)
 
 # $(call files,NAME): what a crate is proved from, its own files and those of the crates that it uses.
-files = $(shell awk -F: -v want=$(1) '/^[a-z]/ { name[++n] = $$1; uses[n] = $$2 } END { in_use[want]; \
+files = $(shell awk -F: -v want=$(1) '/^[a-z]/ { split($$1, word, " "); name[++n] = word[1]; uses[n] = $$2 } END { in_use[want]; \
 	for (i = n; i > 0; i--) if (name[i] in in_use) { print "crates/" name[i]; \
 	k = split(uses[i], u, " "); for (j = 1; j <= k; j++) in_use[u[j]] } }' crates.txt \
-	| xargs -I{} find {} -type f -not -path '*/must-fail/*' -not -path '*/wrong/*' 2>/dev/null | sort) crates.txt
+	| xargs -I{} find {} -type f -not -path '*/must-fail/*' -not -path '*/wrong/*' -not -path '*/out/*' 2>/dev/null | sort) crates.txt
 
 # The sum of these files is written anew only when it is another: what was made from them is then out of date, and else not.
 target/%.sum: FORCE
@@ -41,47 +41,40 @@ target/%.sum: FORCE
 .PRECIOUS: target/%.sum
 FORCE:
 
-# $(call rt,WORDS): runs rt, and shows its own lines as they come; all that it says is in target/rt.log.
+# $(call rt,CRATE,WORD): runs rt in a crate's folder, and tells each crate that it proves as it comes to it; all that rt says is in
+# target/CRATE.log.
 define rt
 @mkdir -p target
-@{ $(RT) $(1) 2>&1 || echo failed; } | tee target/rt.log | awk '/^rt:/ && !/unchanged/ { print; fflush() }' >&2; \
-	test "$$(tail -n 1 target/rt.log)" != failed || { cat target/rt.log >&2; exit 1; }
+@{ (cd crates/$(1) && $(RT) $(2)) 2>&1 || echo failed; } | tee target/$(1).log \
+	| awk '/^rt: chose --jobs/ { print "proving " $$NF; fflush() }' >&2; \
+	test "$$(tail -n 1 target/$(1).log)" != failed || { cat target/$(1).log >&2; exit 1; }
 endef
 
 plan: target/bin/bench
 	@./target/bin/bench <crates/bench/stdin
 
-# The proved programs.
-target/bin/bench: target/bench.sum
+# The proved programs. rt run proves, builds and runs one, on the input that lies beside its source.
+target/bin/bench target/bin/shelf: target/bin/%: target/%.sum
 	$(need-rt)
-	@echo 'Proving the bench program and the crates it uses: about two minutes on two cores, the first time.' >&2
-	$(call rt,check bench)
-	@touch $@
+	@echo 'Proving the $* program and the crates it uses: some minutes, the first time.' >&2
+	$(call rt,$*,run)
+	@mkdir -p target/bin && cp crates/$*/out/$* $@
 
-target/bin/shelf: target/shelf.sum
-	$(need-rt)
-	@echo 'Proving the shelf program and the crates it uses: about two minutes on two cores, the first time.' >&2
-	$(call rt,check shelf)
-	@touch $@
+programs: target/bin/bench target/bin/shelf
 
-programs:
-	$(need-rt)
-	$(RT) check bench shelf
-
-# The library for C; the sheets first, as several at a time.
+# The library for C: the crate desk_c, which exports what desk does, under the name that C callers link.
 library: $(LIBRARY)
-$(LIBRARY): target/desk.sum
+$(LIBRARY): target/desk_c.sum
 	$(need-rt)
-	@echo 'Proving the library for C: about a minute on two cores, the first time.' >&2
-	$(call rt,check settings request plan)
-	$(call rt,staticlib desk)
-	@touch $@
+	@echo 'Proving the library for C: some minutes, the first time.' >&2
+	$(call rt,desk_c,lib)
+	@mkdir -p target/staticlib && cp crates/desk_c/out/libdesk_c.a $@
 
 tools: $(LIBRARY)
 	$(need-cc)
 	@$(MAKE) -s --no-print-directory -C hosts
 
-# The shelf after the tools: two runs of rt at once would prove the same crates twice.
+# The shelf after the tools: of two runs of rt at once, one would wait for the other.
 hire: tools
 	@$(MAKE) -s --no-print-directory target/bin/shelf
 	@examples/hire.sh
@@ -138,11 +131,12 @@ race: programs
 landing:
 	@tests/landing $(BASE) $(AFTER)
 
-# The proofs come last, so that the last line is theirs.
+# rt ci comes first, on the tree as it was checked out, and its closing lines come last.
 test:
 	$(need-rt)
+	RT="$(RT)" tests/gate.sh
 	$(MAKE) -j2 --output-sync=target --no-print-directory host-tests
-	$(RT) ci
+	@tail -n 2 target/ci.log
 
 help:
 	@sed -n 's/^# \(make [a-z]* .*\)/\1/p' Makefile

@@ -8,9 +8,9 @@ export LC_ALL
 found=$(mktemp) || exit 1
 trap 'rm -f "$found"' EXIT
 
-grep -rnE --include='*.rt' --include='*.antt' '^.{141,}' crates | sed -E 's/^([^:]*:[0-9]+):.*/\1: longer than 140 characters/' >"$found"
+grep -rnE --include='*.rt' --include='*.antt' --exclude-dir=out '^.{141,}' crates | sed -E 's/^([^:]*:[0-9]+):.*/\1: longer than 140 characters/' >"$found"
 
-find crates -name '*.antt' | sort | while IFS= read -r file; do
+find crates -name '*.antt' ! -path '*/out/*' | sort | while IFS= read -r file; do
     awk '
         BEGIN { head = 1 }
         head && /^--     [^ ]/ {

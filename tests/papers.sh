@@ -3,7 +3,8 @@
 #   CRATE/NAME      a wrong program or definition on file, in crates/CRATE/must-fail or crates/CRATE/wrong
 #   a path          a file or folder, from the top or from crates/
 #   CRATE::NAME     a function of that crate
-#   words           each name with a hyphen is defined in crates/; every other word stands in crates/, hosts/, include/, tests/ or second/
+#   words           each name with an underscore is a definition's, a theorem's or one of the code, and none of a comment or an edit
+#                   alone; every other word stands in crates/, hosts/, include/, tests/ or second/
 # and docs/PROMISES.md has every public function.
 cd "$(dirname "$0")/.." || exit 1
 LC_ALL=C.UTF-8
@@ -11,10 +12,15 @@ export LC_ALL
 room=$(mktemp -d) || exit 1
 trap 'rm -rf "$room"' EXIT
 
-# every word of the tree, and every name that a definition or proof gives
-find crates hosts include tests second/src Makefile crates.txt -type f ! -name papers.sh ! -path '*/target/*' -exec \
-    grep -hoaE "[A-Za-z][A-Za-z0-9_′-]*" {} + | sort -u >"$room/words"
-find crates -name '*.antt' -exec grep -hoE "[A-Za-z][A-Za-z0-9_′-]* :" {} + | sed 's/ :$//' | sort -u >"$room/defined"
+# every word of the tree; and every name that a definition or proof gives, and every one that stands in code: in a line without its comment
+find crates hosts include tests second/src Makefile crates.txt -type f ! -name papers.sh ! -path '*/target/*' ! -path '*/out/*' -exec \
+    grep -hoaE "[A-Za-z][A-Za-z0-9_'-]*" {} + | sort -u >"$room/words"
+{
+    find crates -name '*.antt' ! -path '*/out/*' -exec grep -hoE "[A-Za-z][A-Za-z0-9_'-]* :" {} + | sed 's/ :$//'
+    find crates hosts include tests second/src -type f ! -path '*/target/*' ! -path '*/out/*' \
+        \( -name '*.rt' -o -name '*.rs' -o -name '*.c' -o -name '*.h' -o -name '*.cpp' \) -exec sed -E 's,//.*,,; /^ *\/?\*/d; s,/\*.*,,' {} + \
+        | grep -oaE "[A-Za-z][A-Za-z0-9_]*"
+} | sort -u >"$room/defined"
 
 for paper in docs/PROMISES.md docs/COVERAGE.md; do
     [ -f "$paper" ] || { echo "papers: no $paper" >&2; exit 1; }
@@ -44,10 +50,10 @@ while IFS="$(printf '\t')" read -r place cited; do
         [ -n "$(find . -path ./target -prune -o -name "$cited" -print | head -n 1)" ] || echo "$place: no file $cited"
         continue ;;
     esac
-    printf '%s\n' "$cited" | grep -oE "[A-Za-z][A-Za-z0-9_′-]*" | while IFS= read -r word; do
+    printf '%s\n' "$cited" | grep -oE "[A-Za-z][A-Za-z0-9_'-]*" | while IFS= read -r word; do
         case $word in
         ?) ;;
-        *-*) grep -qxF -e "$word" "$room/defined" || echo "$place: nothing defines $word" ;;
+        *_*) grep -qxF -e "$word" "$room/defined" || echo "$place: nothing defines $word" ;;
         *) grep -qxF -e "$word" "$room/words" || echo "$place: no $word in the tree" ;;
         esac
     done
