@@ -5,7 +5,7 @@
 use mathlib.Core.Path.{◌≡◌, refl, sym, ap, ◌∙◌, subst}
 use mathlib.Core.Bool.{false, ◌&&◌}
 use mathlib.Core.List.{List, [], ◌∷◌}
-use mathlib.Core.Logic.{◌⊎◌, inl, inr}
+use mathlib.Core.Logic.{inl, inr}
 use Prim.Native.Nat.{ℕ}
 use native.Mathlib.Omega.{arith}
 use borrow.Author.Tests.{ltb-true, ltb-false}
@@ -22,7 +22,7 @@ use Rattle.planner.specs.Answered.{draft_of}
 use Rattle.planner.specs.Asked.{Plans}
 use Rattle.planner.proofs.Plans.{plans_unique}
 use Rattle.unit.specs.declared.Unit.{Unit as Shelf}
-use Rattle.unit.specs.Life.{accepted, refused, Outcome, takes, refuses, rent, settled, set, give_back}
+use Rattle.unit.specs.Life.{accepted, Outcome, takes, refuses, rent, settled, set, give_back}
 use Rattle.unit.specs.Request.{asked_of}
 use Rattle.unit.specs.Unit.{new_unit, tenancy_of, tenanted, returned}
 use Rattle.unit.proofs.Lives.{tenancy_free, rent_low, rent_taken, back_free}

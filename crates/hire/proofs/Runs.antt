@@ -27,7 +27,7 @@ use Rattle.unit.specs.Told.{told, told_verdict}
 use Rattle.unit.specs.Unit.{new_unit, tenancy_of, tenanted, returned}
 use Rattle.unit.proofs.Sound.{sound_new, sound_rent, sound_set, sound_back}
 use Rattle.why.specs.declared.Reasoned.{Reasoned}
-use Rattle.why.specs.Why.{within, Explains, told_why, Explained}
+use Rattle.why.specs.Why.{told_why, Explained}
 use Rattle.why.proofs.Unique.{explains_unique, explains_exists}
 use Rattle.hire.specs.Calls.{Call, renting, setting, asking, returning, explaining}
 use Rattle.hire.specs.Calls.{Reply, said, planned, explained, Comes, sent, Does, Runs, none, next}

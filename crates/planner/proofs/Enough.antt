@@ -2,14 +2,13 @@
 use mathlib.Core.Path.{◌≡◌, sym, ap, ◌∙◌, subst}
 use mathlib.Core.List.{List}
 use Prim.Native.Nat.{ℕ, ◌≤◌}
-use native.Mathlib.Omega.{arith}
 use lib.ListN.{length}
 use Rattle.field.specs.declared.Fault.{Fault}
 use Rattle.field.specs.declared.Refusal.TheVariants.{NoRoom}
 use Rattle.field.specs.declared.Written.{Written}
 use Rattle.field.specs.declared.Written.TheVariants.{Refused}
-use Rattle.field.specs.Send.{Draft, told_written, answer_to}
-use Rattle.field.specs.Sheet.{Note, Out, got, refused}
+use Rattle.field.specs.Send.{told_written, answer_to}
+use Rattle.field.specs.Sheet.{Out, got, refused}
 use Rattle.field.proofs.Known.{Answers}
 use Rattle.field.proofs.Sends.{Roomless, sent_enough}
 use Rattle.model.specs.Case.{Case}

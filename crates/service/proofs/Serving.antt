@@ -1,14 +1,12 @@
 -- Laws of a turn: the line of each outcome, of a request, of a question, of each call; what a turn leaves; no second answer.
 use mathlib.Core.Path.{◌≡◌, refl, sym, ap, ap₂, ◌∙◌, subst}
-use mathlib.Core.Bool.{Bool, true, false, ◌&&◌, not}
+use mathlib.Core.Bool.{Bool, true, false, ◌&&◌}
 use mathlib.Core.List.{List, [], ◌∷◌, ◌++◌}
-use Prim.Native.Nat.{ℕ, zero, suc, ◌+◌, ◌-◌, ◌≤◌, ◌<◌}
+use Prim.Native.Nat.{ℕ, zero, suc, ◌-◌, ◌≤◌}
 use native.Mathlib.Omega.{arith}
-use borrow.Author.Tests.{eq-eqb, ne_eqb}
 use lib.Dec.{eqb}
 use lib.ListN.{length, take, drop, replicate, length-append}
 use lib.Seq.{take-append-le}
-use Rattle.basics.specs.Choice.{pick}
 use Rattle.basics.proofs.Choice.{pick_true, pick_false}
 use Rattle.field.specs.declared.Fault.{Fault}
 use Rattle.field.specs.declared.Written.TheVariants.{Length, Refused as NotWritten}
@@ -24,9 +22,8 @@ use Rattle.unit.specs.declared.Done.{Done}
 use Rattle.unit.specs.declared.Requested.{Requested}
 use Rattle.unit.specs.declared.Unit.{Unit}
 use Rattle.hire.specs.Calls.{asking, said, planned, explained, Does}
-use Rattle.unit.specs.Life.{Verdict, accepted, Outcome, rent, set, give_back, refused as denied}
+use Rattle.unit.specs.Life.{Verdict, accepted, rent, set, give_back, refused as denied}
 use Rattle.unit.specs.Request.{asked_of, Replied}
-use Rattle.unit.specs.Sound.{Sound}
 use Rattle.unit.specs.Told.{told, told_verdict}
 use Rattle.unit.specs.Unit.{new_unit}
 use Rattle.hire.proofs.Runs.{rent_does, set_does, back_does, request_does}
@@ -43,9 +40,8 @@ use Rattle.line.specs.declared.Word.{Word}
 use Rattle.line.specs.declared.Word.TheVariants.{Rented, Set, Returned, RefusedAt, Stopped, Reason as Tells}
 use Rattle.line.specs.Line.{spoken, sheet_line}
 use Rattle.line.specs.Printed.{Printed}
-use Rattle.line.proofs.Adding.{no_line, printed_unique}
+use Rattle.line.proofs.Adding.{no_line}
 use Rattle.line.proofs.Lines.{printed_same}
-use Rattle.service.specs.declared.Next.{Next}
 use Rattle.service.specs.declared.Next.TheVariants.{Served, Wants, Done as Last}
 use Rattle.service.specs.declared.Shelf.{Shelf}
 use Rattle.service.specs.declared.Turn.{Turn}

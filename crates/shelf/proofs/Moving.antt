@@ -2,13 +2,12 @@
 --     Moves           so many are moved, and those behind are as they were
 --     shifts          all are moved
 use mathlib.Core.Path.{◌≡◌, refl, sym, ap, ◌∙◌}
-use mathlib.Core.Logic.{◌⊎◌, inl, inr}
-use mathlib.Core.List.{List, ◌++◌}
+use mathlib.Core.List.{List}
 use Prim.Native.Nat.{ℕ, ◌+◌, ◌-◌, ◌≤◌, ◌<◌}
 use native.Mathlib.Omega.{arith}
 use borrow.Author.Count.{below_more}
 use lib.ListN.{length, take, drop, get_or, set, length-set, length-drop}
-use lib.Seq.{get_or-set_same, get_or-set_other, get_or-take, get_or-drop, ext_get_or, length-take-le, take-add}
+use lib.Seq.{get_or-set_same, get_or-set_other, get_or-take, get_or-drop, ext_get_or, length-take-le}
 use Rattle.shelf.specs.Parts.{Shifts}
 
 pub record Moves (buf : List ℕ) (used have : ℕ) (after : List ℕ) (from to : ℕ) : Type 0 where

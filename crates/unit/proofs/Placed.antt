@@ -2,7 +2,7 @@
 --     set_placed        of a settings sheet
 --     replied_placed    of a read request, but for 11, which is of the lent buffer
 use Prim.Native.Nat.{ℕ, ◌≤◌}
-use mathlib.Core.Path.{◌≡◌, refl, sym, ap, subst, ◌∙◌}
+use mathlib.Core.Path.{◌≡◌, sym, ap, ◌∙◌}
 use mathlib.Core.List.{List}
 use native.Mathlib.Omega.{arith}
 use lib.ListN.{length}
@@ -11,7 +11,7 @@ use Rattle.field.specs.declared.Fault.{Fault}
 use Rattle.field.specs.declared.Refusal.TheVariants.{NoRoom}
 use Rattle.field.specs.declared.Verdict.TheVariants.{Refused as Denied}
 use Rattle.field.specs.declared.Written.TheVariants.{Refused}
-use Rattle.field.specs.Refusal.{number_of, note_of}
+use Rattle.field.specs.Refusal.{note_of}
 use Rattle.field.specs.Sheet.{Note, Out, got, refused}
 use Rattle.field.proofs.Unique.{number_injective}
 use Rattle.settings.specs.declared.Table.{Table}
@@ -24,7 +24,7 @@ use Rattle.planner.proofs.Answers.{Unsent, denied, longer, answered_none}
 use Rattle.unit.specs.declared.Done.{Done}
 use Rattle.unit.specs.declared.Requested.{Requested}
 use Rattle.unit.specs.declared.Unit.{Unit}
-use Rattle.unit.specs.Life.{Verdict, refused as refused_with, Outcome, takes, refuses, settled, set}
+use Rattle.unit.specs.Life.{refused as refused_with, Outcome, takes, refuses, settled, set}
 use Rattle.unit.specs.Request.{asked_of, Replied}
 use Rattle.unit.specs.Told.{told_verdict, told}
 use Rattle.unit.specs.Unit.{tenancy_of}

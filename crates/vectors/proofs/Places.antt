@@ -1,13 +1,12 @@
 -- Document 02, Q-1: where a refusal is placed, and wrong places and numbers ruled out.
 use mathlib.Core.Path.{◌≡◌, refl, ap, sym, ◌∙◌}
-use mathlib.Core.List.{List, [], ◌∷◌}
-use Prim.Native.Nat.{ℕ, ◌+◌, ◌*◌, ◌^◌}
+use mathlib.Core.List.{[], ◌∷◌}
+use Prim.Native.Nat.{◌+◌, ◌*◌, ◌^◌}
 use native.Mathlib.Omega.{arith}
-use lib.ListN.{get_or, replicate}
+use lib.ListN.{replicate}
 use Rattle.field.specs.declared.Fault.{Fault}
 use Rattle.field.specs.declared.Refusal.TheVariants.{NoRoom}
-use Rattle.field.specs.declared.Written.{Written}
-use Rattle.field.specs.declared.Written.TheVariants.{Length, Refused}
+use Rattle.field.specs.declared.Written.TheVariants.{Refused}
 use Rattle.field.specs.Field.{number}
 use Rattle.field.specs.Refusal.{fault_at}
 use Rattle.field.specs.Send.{none, Sent}
@@ -19,7 +18,7 @@ use Rattle.settings.specs.Sheet.{settings_sheet}
 use Rattle.request.specs.Draft.{request_draft}
 use Rattle.request.specs.Request.{request_sheet}
 use Rattle.plan.specs.declared.Head.{Head}
-use Rattle.plan.specs.Plan.{Plan, plan_sheet}
+use Rattle.plan.specs.Plan.{plan_sheet}
 use Rattle.plan.specs.Receive.{if_room}
 use Rattle.lent.specs.Packed.{reader_answer}
 use Rattle.vectors.specs.Text.{bytes}

@@ -1,12 +1,11 @@
 -- Wrong answers ruled out: none but the one worked out satisfies the promise, by the theorem that no second answer does.
 use Prim.Native.Nat.{ℕ, ◌+◌, ◌*◌, ◌^◌}
-use mathlib.Core.Bool.{Bool, true, false, cond}
+use mathlib.Core.Bool.{true}
 use mathlib.Core.List.{List, [], ◌∷◌}
 use mathlib.Core.Path.{◌≡◌, sym, ap, ◌∙◌}
 use native.Mathlib.Omega.{arith}
-use lib.ListN.{get_or, length, replicate}
+use lib.ListN.{get_or, replicate}
 use Rattle.field.specs.declared.Refusal.TheVariants.{NoRoom}
-use Rattle.field.specs.declared.Written.{Written}
 use Rattle.field.specs.declared.Written.TheVariants.{Length, Refused}
 use Rattle.field.specs.Sheet.{note, unplaced, Out, got, refused}
 use Rattle.field.specs.Refusal.{fault_at}
@@ -23,12 +22,11 @@ use Rattle.request.specs.Draft.{request_draft}
 use Rattle.request.specs.Request.{request_sheet}
 use Rattle.plan.specs.declared.Answer.TheVariants.{Accepted}
 use Rattle.plan.specs.Draft.{plan_draft}
-use Rattle.plan.specs.Plan.{Plan, plan_sheet}
+use Rattle.plan.specs.Plan.{plan_sheet}
 use Rattle.plan.specs.Receive.{Received}
 use Rattle.plan.proofs.Unique.{read_unique}
 use Rattle.engine.specs.Planned.{Planned}
 use Rattle.engine.proofs.Unique.{planned_unique}
-use Rattle.unit.specs.declared.Unit.{Unit as Shelf}
 use Rattle.unit.specs.Life.{Verdict, Outcome, accepted, rent, set, give_back}
 use Rattle.unit.specs.Life.{refused as refused_with}
 use Rattle.unit.specs.Request.{Replied}
@@ -37,7 +35,7 @@ use Rattle.desk.specs.Desk.{settings_draft_of_bytes, request_draft_of_bytes, Pla
 use Rattle.desk.proofs.Unique.{plan_read_unique}
 use Rattle.stream.specs.Call.{asked, rents, returns}
 use Rattle.vectors.specs.Text.{bytes}
-use Rattle.vectors.proofs.Opened.{plan_opened, desk_opened}
+use Rattle.vectors.proofs.Opened.{desk_opened}
 use Rattle.vectors.proofs.Settings as settings
 use Rattle.vectors.proofs.Request as request
 use Rattle.vectors.proofs.Plan as plan

@@ -1,5 +1,4 @@
 -- `apply`: the settings are applied before the second length is read.
-use borrow.Author.Rules.{rules}
 use native.Mathlib.Omega.{arith}
 use Rattle.console.proofs.Benching.{rented_set, apply_taken, apply_denied, apply_stops, tells_refused, tells_same}
 use Rattle.stream.proofs.Framing.{spans_part, spans_refused}

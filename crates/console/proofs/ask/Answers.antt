@@ -1,5 +1,4 @@
 -- `ask`: the request's promise says whose sheet stands in the buffer, with room for the longest plan.
-use borrow.Author.Rules.{rules}
 use native.Mathlib.Omega.{arith}
 use lib.Seq.{length-take-le}
 use mathlib.Core.Path.{sym}

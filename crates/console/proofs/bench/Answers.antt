@@ -1,5 +1,4 @@
 -- `bench`: unit and tenancy; the first refusal stands.
-use borrow.Author.Rules.{rules}
 use Rattle.console.proofs.Benching.{input_hires, input_no_tenancy, input_no_unit, tells_refused, tells_same}
 use Rattle.field.proofs.Readers.{told_got, told_refused}
 use Rattle.console.proofs.bench.Goals as goal

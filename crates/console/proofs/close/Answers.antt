@@ -1,5 +1,4 @@
 -- `close`: the request's sheet, the end of the input, and then the request.
-use borrow.Author.Rules.{rules}
 use native.Mathlib.Omega.{arith}
 use Rattle.field.specs.declared.Refusal.TheVariants.{BytesFollow}
 use Rattle.field.specs.Refusal.{fault_at}

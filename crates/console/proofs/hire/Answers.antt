@@ -1,5 +1,4 @@
 -- `hire`: a new unit is rented, and is then rented and sound (`rented_new`).
-use borrow.Author.Rules.{rules}
 use Rattle.console.proofs.Benching.{rented_new, hire_taken, hire_denied, tells_refused, tells_same}
 use Rattle.unit.specs.Life.{rent}
 use Rattle.unit.specs.declared.Unit.{Unit}

@@ -1,5 +1,4 @@
 -- `show`: what is read back of a plan sheet is the plan, and it is never refused.
-use borrow.Author.Rules.{rules}
 use native.Mathlib.Omega.{arith}
 use lib.Seq.{length-take-le}
 use mathlib.Core.Path.{sym, ap}

@@ -1,5 +1,4 @@
 -- What the reader of requests said, with the copies in use and the columns of the table: `keepable`, `asks_case`, `asks_refused`.
-use borrow.Author.Rules.{rules}
 use Rattle.planner.proofs.Asking.{keepable, asks_case, asks_refused}
 use Rattle.planner.proofs.ask.Goals as goal
 

@@ -1,12 +1,9 @@
 -- Row by row, costs and starts: `UpTo`.
-use borrow.Author.Rules.{rules}
 use native.Mathlib.Omega.{arith}
 use mathlib.Core.Path.{refl, ap, ◌∙◌}
-use Prim.Native.Nat.{◌-◌}
-use Rattle.basics.specs.Limits.{disks_most}
 use Rattle.model.specs.Case.{starting}
 use Rattle.planner.specs.Asked.{start_of}
-use Rattle.planner.proofs.Rows.{UpTo, upto_start, upto_step, upto_done, wait_small}
+use Rattle.planner.proofs.Rows.{upto_start, upto_step, upto_done, wait_small}
 use Rattle.planner.proofs.columns.Goals as goal
 
 pub loop-i-init : goal.loop-i-init

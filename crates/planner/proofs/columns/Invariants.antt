@@ -1,11 +1,6 @@
-use borrow.Author.Rules.{rules}
-use native.Mathlib.Omega.{arith}
-use mathlib.Core.Path.{refl, ap, ◌∙◌}
 use Prim.Native.Nat.{◌-◌}
 use Rattle.basics.specs.Limits.{disks_most}
-use Rattle.model.specs.Case.{starting}
-use Rattle.planner.specs.Asked.{start_of}
-use Rattle.planner.proofs.Rows.{UpTo, upto_start, upto_step, upto_done, wait_small}
+use Rattle.planner.proofs.Rows.{UpTo}
 use Rattle.planner.proofs.columns.Given as goal
 
 abbrev pub invariant-loop-i : goal.invariant-loop-i

@@ -1,8 +1,5 @@
 -- Block by block the disks that are out are taken from the copies: `Kept`.
-use borrow.Author.Rules.{rules}
 use native.Mathlib.Omega.{arith}
-use Prim.Native.Nat.{◌-◌, ◌≤◌}
-use Rattle.planner.specs.Parts.{Kept}
 use Rattle.planner.proofs.Cut.{kept_start, kept_step, kept_done}
 use Rattle.planner.proofs.keep.Goals as goal
 

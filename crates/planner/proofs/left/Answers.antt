@@ -1,5 +1,4 @@
 -- `left` meets its contract, by the two cases of what is left.
-use borrow.Author.Rules.{rules}
 use native.Mathlib.Omega.{arith}
 use mathlib.Core.Path.{sym}
 use Rattle.model.proofs.Left.{left_some, left_none}

@@ -1,11 +1,7 @@
 -- Row by row the disks that are out are put into one number: `Gathered`.
-use borrow.Author.Rules.{rules}
 use native.Mathlib.Omega.{arith}
 use mathlib.Core.Path.{refl}
-use mathlib.Core.Logic.{⊎_elim}
-use Prim.Native.Nat.{◌-◌}
-use Rattle.basics.specs.Limits.{disks_most}
-use Rattle.planner.proofs.Cut.{Gathered, gathered_start, gathered_out, gathered_in, gathered_done}
+use Rattle.planner.proofs.Cut.{gathered_start, gathered_out, gathered_in, gathered_done}
 use Rattle.planner.proofs.out_of.Goals as goal
 use Rattle.planner.proofs.out_of.Goals.{then-row-eq1, else-row-eq1}
 

@@ -1,5 +1,4 @@
 -- What was asked is lent and its plan sent, or the refusal stands: `lent`, `answered_plan`, `answered_not`.
-use borrow.Author.Rules.{rules}
 use Rattle.planner.proofs.Asking.{lent, answered_plan, answered_not}
 use Rattle.planner.proofs.plan_into.Goals as goal
 

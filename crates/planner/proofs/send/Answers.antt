@@ -1,5 +1,4 @@
 -- The two lists are cut to what was found.
-use borrow.Author.Rules.{rules}
 use native.Mathlib.Omega.{arith}
 use lib.Seq.{length-take-le}
 use mathlib.Core.Path.{sym}

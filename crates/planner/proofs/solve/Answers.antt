@@ -1,5 +1,4 @@
 -- The lists are lent to the engine, and what it found is sent: `ready`, `found_plan`.
-use borrow.Author.Rules.{rules}
 use Prim.Native.Nat.{ℕ}
 use lib.ListN.{length-replicate}
 use Rattle.basics.specs.Limits.{blocks_most}

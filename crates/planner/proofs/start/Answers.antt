@@ -1,5 +1,4 @@
 -- `start` meets its contract, rule by rule: the sum, or the larger of the two.
-use borrow.Author.Rules.{rules}
 use native.Mathlib.Omega.{arith}
 use mathlib.Core.Path.{◌≡◌, sym, ap, ◌∙◌}
 use Prim.Native.Nat.{max}

@@ -1,6 +1,4 @@
 -- `between_calls`: an open shelf, and no bytes.
-use borrow.Author.Rules.{rules}
-use mathlib.Core.Path.{◌≡◌, refl}
 use Rattle.service.proofs.between_calls.Goals as goal
 
 pub returns-then-opened : goal.returns-then-opened

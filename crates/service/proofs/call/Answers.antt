@@ -1,5 +1,4 @@
 -- `call`: one law for each call, whose sheet lies within the bytes.
-use borrow.Author.Rules.{rules}
 use native.Mathlib.Omega.{arith}
 use Rattle.service.proofs.Serving.{turned_rent, turned_set, turned_request, turned_why, turned_return, turned_unserved}
 use Rattle.service.proofs.Serving.{held_settings, held_request, held_why}

@@ -1,5 +1,4 @@
 -- `explain`: the reason's number and time, or the refusal with its place.
-use borrow.Author.Rules.{rules}
 use Rattle.service.proofs.Serving.{why_told, why_refused}
 use Rattle.service.proofs.explain.Goals as goal
 

@@ -1,5 +1,4 @@
 -- `open`: a new unit of the number, or nothing whole.
-use borrow.Author.Rules.{rules}
 use Rattle.field.proofs.Readers.{told_got, told_refused}
 use Rattle.service.proofs.Serving.{turned_same, turned_opens, due_closed}
 use Rattle.service.proofs.open.Goals as goal

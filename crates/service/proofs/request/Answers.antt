@@ -1,5 +1,4 @@
 -- `request`: the plan sheet stands in the lent part of the buffer, or is longer than it.
-use borrow.Author.Rules.{rules}
 use native.Mathlib.Omega.{arith}
 use Rattle.unit.proofs.Replies.{replied_within}
 use Rattle.service.proofs.Serving.{part_within, lent, request_sent, request_kept}

@@ -1,5 +1,4 @@
 -- `serve`: a call, once the unit's number was read.
-use borrow.Author.Rules.{rules}
 use Rattle.service.proofs.Serving.{turned_same, due_when}
 use Rattle.service.proofs.serve.Goals as goal
 

@@ -1,5 +1,4 @@
 -- `served`: the verdict's line, and the unit that the call handed back.
-use borrow.Author.Rules.{rules}
 use mathlib.Core.Path.{refl}
 use Rattle.service.specs.Shelf.{shelf_of}
 use Rattle.service.proofs.served.Goals as goal

@@ -1,7 +1,5 @@
 -- `unserved`: more bytes wanted, a clean end, or a damaged stream.
-use borrow.Author.Rules.{rules}
-use mathlib.Core.Path.{◌≡◌, sym, ap, ◌∙◌}
-use mathlib.Core.Bool.{true, false}
+use mathlib.Core.Path.{sym, ap, ◌∙◌}
 use Rattle.line.proofs.Lines.{printed_same}
 use Rattle.line.specs.declared.Word.TheVariants.{Stopped}
 use Rattle.line.specs.Line.{spoken}

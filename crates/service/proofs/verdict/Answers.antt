@@ -1,5 +1,4 @@
 -- `verdict`: the word, or the refusal.
-use borrow.Author.Rules.{rules}
 use Rattle.service.proofs.Serving.{verdict_taken, verdict_denied}
 use Rattle.service.proofs.verdict.Goals as goal
 

@@ -1,6 +1,5 @@
 -- `waits`: 1 alone may be completed.
-use borrow.Author.Rules.{rules}
-use mathlib.Core.Path.{◌≡◌, sym, ap, refl}
+use mathlib.Core.Path.{sym, ap}
 use Rattle.field.specs.declared.Refusal.{Refusal}
 use Rattle.field.specs.Refusal.{number_of}
 use Rattle.field.specs.Sheet.{note}

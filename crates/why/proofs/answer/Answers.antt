@@ -1,5 +1,4 @@
 -- What was asked is lent for its reason, or a refusal stands: `no_block`, `no_disk_law`, `told`, `not_asked`.
-use borrow.Author.Rules.{rules}
 use native.Mathlib.Omega.{arith}
 use Rattle.why.proofs.Answers.{no_block, no_disk_law, can_lend, told, not_asked}
 use Rattle.why.proofs.answer.Goals as goal

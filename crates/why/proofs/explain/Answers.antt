@@ -1,5 +1,4 @@
 -- What is answered, and the unit as it was.
-use borrow.Author.Rules.{rules}
 use mathlib.Core.Path.{refl}
 use Rattle.why.proofs.explain.Goals as goal
 

@@ -1,5 +1,4 @@
 -- `new`: a new unit, of which nothing is read.
-use borrow.Author.Rules.{rules}
 use mathlib.Core.Path.{ap}
 use Rattle.unit.specs.declared.Unit.{Unit}
 use Rattle.service.specs.declared.Shelf.{Shelf}

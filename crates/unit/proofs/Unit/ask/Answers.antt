@@ -1,5 +1,4 @@
 -- What the planner spelled for the tenancy that was found.
-use borrow.Author.Rules.{rules}
 use Rattle.unit.proofs.Replies.{spelled_for}
 use Rattle.unit.proofs.Unit.ask.Goals as goal
 

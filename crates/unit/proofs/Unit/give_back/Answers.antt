@@ -1,5 +1,4 @@
 -- Each return is one law of `give_back`.
-use borrow.Author.Rules.{rules}
 use Rattle.unit.proofs.Lives.{back_anew}
 use Rattle.unit.proofs.Lives.{back_other, back_free}
 use Rattle.unit.specs.Life.{takes, refuses}

@@ -1,5 +1,4 @@
 -- A table made anew is the empty one.
-use borrow.Author.Rules.{rules}
 use Rattle.unit.proofs.Lives.{new_anew}
 use Rattle.unit.proofs.Unit.new.Goals as goal
 

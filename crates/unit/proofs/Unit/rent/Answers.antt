@@ -1,5 +1,4 @@
 -- Each return is one law of `rent`.
-use borrow.Author.Rules.{rules}
 use Rattle.unit.proofs.Lives.{rent_anew}
 use Rattle.unit.proofs.Lives.{rent_rented, rent_low}
 use Rattle.unit.specs.Life.{takes, refuses}

@@ -1,5 +1,4 @@
 -- What the planner answered is the reply.
-use borrow.Author.Rules.{rules}
 use Rattle.unit.proofs.Replies.{replied}
 use Rattle.unit.proofs.Unit.request.Goals as goal
 

@@ -1,5 +1,4 @@
 -- What the reader of settings said is what `settled` takes.
-use borrow.Author.Rules.{rules}
 use Rattle.unit.proofs.Lives.{set_found, settled_accepted, settled_refused}
 use Rattle.unit.specs.Life.{takes, refuses}
 use Rattle.unit.specs.Told.{told, told_verdict}
