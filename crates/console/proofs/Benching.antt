@@ -191,7 +191,8 @@ pub received_as : {o : Out Plan} {n : ℕ} {disks short disks' short' : List ℕ
 received_as {o} {n} {disks} {short} {disks'} {short'} w q = subst (λ (x : Answer). Received o n disks short x disks' short') q w
 
 module _ (unit t : ℕ) (s disks short : List ℕ) where
-  module _ (h : Head) (disks' short' : List ℕ) (w : Received (plan_sheet unit t s 0) (length s) disks short (Accepted h) disks' short') where
+  module _ (h : Head) (disks' short' : List ℕ)
+      (w : Received (plan_sheet unit t s 0) (length s) disks short (Accepted h) disks' short') where
     back : Took (plan_sheet unit t s 0) (length s) disks short h disks' short'
     back = took (length s) disks short h disks' short' (plan_sheet unit t s 0) w
 

@@ -267,7 +267,8 @@ settings_of_numbers r unit t cs ls ds c l d =
 
 pub marked_of_numbers : (unit t r : ℕ) (cs ls ds ms : List ℕ) → All (λ (x : ℕ). x < 256 ^ 4) cs → All (λ (x : ℕ). x < 256 ^ 4) ls
     → All (λ (x : ℕ). x < 256 ^ 4) ds → All (λ (x : ℕ). x < 256 ^ 4) ms
-    → marked_draft_of_bytes unit t r (spell_all (bytes_of 4) cs) (spell_all (bytes_of 4) ls) (spell_all (bytes_of 4) ds) (spell_all (bytes_of 4) ms)
+    → marked_draft_of_bytes unit t r (spell_all (bytes_of 4) cs) (spell_all (bytes_of 4) ls) (spell_all (bytes_of 4) ds)
+    (spell_all (bytes_of 4) ms)
     ≡ marked_draft unit t r cs ls ds ms
 unfolding marked_draft_of_bytes
 marked_of_numbers unit t r cs ls ds ms c l d m =

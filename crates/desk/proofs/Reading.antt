@@ -189,7 +189,8 @@ module _ {unit t : ℕ} {s disks short : List ℕ} {a : Answer} {disks' short' :
   unfolding told_plan set_left short_left
   read_accepted set blocks {h} {r} {after} e room held answer left =
       let p : Plans unit t s disks short h = accepted e in
-      let same : if_room (plan_sheet unit t s 0) disks short ≡ plan_if_room unit t s disks set = room_same unit t s disks short set b room in
+      let same : if_room (plan_sheet unit t s 0) disks short ≡ plan_if_room unit t s disks set =
+      room_same unit t s disks short set b room in
       let members : short' ≡ over p.plan.short short = g.members ∙ ap (λ (o : Out Plan). short_left o short) p.is in
       let first : take h.size blocks ≡ p.plan.short =
       sym (take-take h.size (length short) blocks (omega (arith, p.size, p.room)))
@@ -207,8 +208,10 @@ module _ {unit t : ℕ} {s disks short : List ℕ} {a : Answer} {disks' short' :
       → PlanRead unit t s disks set r disks' set
   unfolding told_plan reader_answer
   read_refused set {e} {r} q room answer =
-      let same : if_room (plan_sheet unit t s 0) disks short ≡ plan_if_room unit t s disks set = room_same unit t s disks short set b room in
-      let v : refused (note_of e) ≡ heads (plan_if_room unit t s disks set) = ap (told_plan (length s)) (sym q) ∙ g.answer ∙ ap heads same in
+      let same : if_room (plan_sheet unit t s 0) disks short ≡ plan_if_room unit t s disks set =
+      room_same unit t s disks short set b room in
+      let v : refused (note_of e) ≡ heads (plan_if_room unit t s disks set) = ap (told_plan (length s)) (sym q) ∙ g.answer
+      ∙ ap heads same in
       record {
         answer = answer ∙ ap reader_answer v;
         blocks = g.blocks ∙ ap (λ (o : Out Plan). disks_left o disks) same;

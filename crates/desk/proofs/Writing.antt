@@ -136,7 +136,8 @@ module _ (costs loads delays : List ℕ) where
 six_either : (b : Bool) (d : Draft) → (b ≡ true) ⊎ (d ≡ none (unplaced 6)) → pick b (none (unplaced 6)) d ≡ none (unplaced 6)
 six_either b d h = pick_elim (λ (x : Draft). x ≡ none (unplaced 6)) b _ _ (λ _. refl) (λ f. ⊎_elim (λ t. absurd (differ t f)) (λ e. e) h)
 
-sheet_unfit : (k unit t r : ℕ) {cs ls ds ms : List ℕ} → (ListsFit t cs ls ds ms → ⊥) → sheet_draft k unit t r cs ls ds ms ≡ none (unplaced 6)
+sheet_unfit : (k unit t r : ℕ) {cs ls ds ms : List ℕ} → (ListsFit t cs ls ds ms → ⊥)
+    → sheet_draft k unit t r cs ls ds ms ≡ none (unplaced 6)
 unfolding sheet_draft
 sheet_unfit k unit t r f = pick_false _ _ (sym (unfit_lists f))
 

@@ -8,7 +8,8 @@ use lib.Seq.{take-suc}
 use Rattle.field.specs.Put.{spell_all}
 
 -- the bytes of one list behind another
-pub spell_append : {A : Type 0} (spell : A → List ℕ) (xs ys : List A) → spell_all spell (xs ++ ys) ≡ spell_all spell xs ++ spell_all spell ys
+pub spell_append : {A : Type 0} (spell : A → List ℕ) (xs ys : List A)
+    → spell_all spell (xs ++ ys) ≡ spell_all spell xs ++ spell_all spell ys
 unfolding spell_all
 spell_append spell [] ys = refl
 spell_append spell (x ∷ xs) ys = ap (λ (z : List ℕ). spell x ++ z) (spell_append spell xs ys)

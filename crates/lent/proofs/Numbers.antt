@@ -53,7 +53,8 @@ unfolding number_at value_of
 number_none s at = refl
 
 -- four bytes, one by one
-pub number_four : (s : List ℕ) (at : ℕ) {a b c d : ℕ} → at + 4 ≤ length s → a ≡ get_or s at 0 → b ≡ get_or s (at + 1) 0 → c ≡ get_or s (at + 2) 0
+pub number_four : (s : List ℕ) (at : ℕ) {a b c d : ℕ} → at + 4 ≤ length s → a ≡ get_or s at 0 → b ≡ get_or s (at + 1) 0
+    → c ≡ get_or s (at + 2) 0
     → d ≡ get_or s (at + 3) 0 → a + 256 * (b + 256 * (c + 256 * d)) ≡ number_at 4 s at
 number_four s at {a} {b} {c} {d} h p q r t =
     let two : at + 1 + 1 ≡ at + 2 = omega arith in

@@ -22,7 +22,8 @@ use Rattle.lent.specs.Packed.{length_in, blocks_in, time_in, size_in}
 use Rattle.lent.specs.Packed.{refusals, length_at, lengths, blocks_at, time_at, times, size_at, counts, pack_refused, Fits32, FitsBits}
 
 -- a writer's acceptance: no refusal, and the length
-pub written_unpacks : (n : ℕ) → n < lengths → (pack_written n < 2 ^ 64) × (refusal_in (pack_written n) ≡ 0) × (length_in (pack_written n) ≡ n)
+pub written_unpacks : (n : ℕ) → n < lengths
+    → (pack_written n < 2 ^ 64) × (refusal_in (pack_written n) ≡ 0) × (length_in (pack_written n) ≡ n)
 unfolding pack_written refusal_in length_in
 written_unpacks n h = (omega arith, omega arith, omega arith)
 

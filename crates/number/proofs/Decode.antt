@@ -36,7 +36,8 @@ under_first [] h l = absurd (omega arith)
 under_first (b ∷ s) h l = pick_false _ _ (le-ltb _ _ l) ∙ ap (λ (x : List ℕ). under b (more 3 x)) (sym (rest (b ∷ s) 1))
 
 module _ (s : List ℕ) (h : 0 < length s) (l : 128 ≤ get_or s 0 0) where
-  pub decode_value : {v n : ℕ} → more 3 (take (length s - 1) (drop 1 s)) ≡ value v n → decode s ≡ value (get_or s 0 0 % 128 + 128 * v) (n + 1)
+  pub decode_value : {v n : ℕ} → more 3 (take (length s - 1) (drop 1 s)) ≡ value v n
+      → decode s ≡ value (get_or s 0 0 % 128 + 128 * v) (n + 1)
   unfolding under
   decode_value e = under_first s h l ∙ ap (under (get_or s 0 0)) e
 
@@ -62,7 +63,8 @@ more_zero zero (b ∷ s) h e = pick_true _ _ (eq-eqb _ _ e)
 more_zero (suc k) (b ∷ s) h e = pick_true _ _ (eq-eqb _ _ e)
 
 -- the fifth byte is below 16
-pub more_fifth : (k : ℕ) (s : List ℕ) → k ≡ 0 → 0 < length s → (get_or s 0 0 ≡ 0 → ⊥) → get_or s 0 0 < 16 → more k s ≡ value (get_or s 0 0) 1
+pub more_fifth : (k : ℕ) (s : List ℕ) → k ≡ 0 → 0 < length s → (get_or s 0 0 ≡ 0 → ⊥) → get_or s 0 0 < 16
+    → more k s ≡ value (get_or s 0 0) 1
 unfolding more
 more_fifth (suc k) s z h e l = absurd (omega arith)
 more_fifth zero [] z h e l = absurd (omega arith)
@@ -75,7 +77,8 @@ more_large (suc k) s z h e l = absurd (omega arith)
 more_large zero [] z h e l = absurd (omega arith)
 more_large zero (b ∷ s) z h e l = pick_false _ _ (ne_eqb _ _ e) ∙ pick_false _ _ (le-ltb _ _ l)
 
-pub more_one : (k : ℕ) (s : List ℕ) → (k ≡ 0 → ⊥) → 0 < length s → (get_or s 0 0 ≡ 0 → ⊥) → get_or s 0 0 < 128 → more k s ≡ value (get_or s 0 0) 1
+pub more_one : (k : ℕ) (s : List ℕ) → (k ≡ 0 → ⊥) → 0 < length s → (get_or s 0 0 ≡ 0 → ⊥) → get_or s 0 0 < 128
+    → more k s ≡ value (get_or s 0 0) 1
 unfolding more
 more_one zero s p h e l = absurd (p refl)
 more_one (suc k) [] p h e l = absurd (omega arith)

@@ -41,7 +41,8 @@ bound_valid u = all_placed u.placed u.whole
 
 module _ {k r : ℕ} {cut seats dead : List ℕ} (p : LowerCopies k cut seats dead r) where
   lower_both : (e : ℕ) → has r e ≡ true → (holds cut k e && ltb e (get_or seats k 0)) ≡ true
-  lower_both e t = and_left (holds cut k e && ltb e (get_or seats k 0)) (not (has (get_or dead (get_or seats k 0) 0) e)) (sym (p.each e) ∙ t)
+  lower_both e t =
+      and_left (holds cut k e && ltb e (get_or seats k 0)) (not (has (get_or dead (get_or seats k 0) 0) e)) (sym (p.each e) ∙ t)
 
   lower_part : Inside r (get_or cut k 0)
   lower_part e t = and_left (holds cut k e) (ltb e (get_or seats k 0)) (lower_both e t)

@@ -43,7 +43,8 @@ module _ (k r : ℕ) (cut : List ℕ) (h : k < length cut) (f : Inside r (get_or
       (λ s. rw (cut_else b (eqb-false b k s)) at m)
 
 -- a disk that reads its capacity has no room
-full_room : (n d room : ℕ) (caps counts : List ℕ) → Open n caps counts room → d < n → get_or caps d 0 ≤ get_or counts d 0 → has room d ≡ false
+full_room : (n d room : ℕ) (caps counts : List ℕ) → Open n caps counts room → d < n → get_or caps d 0 ≤ get_or counts d 0
+    → has room d ≡ false
 full_room n d room caps counts o l h = rw (o d, lt-ltb d n l) (le-ltb _ _ h)
 
 module _ {n q k lower base room : ℕ} {cut caps seats counts next prev out by : List ℕ}
@@ -173,7 +174,8 @@ module _ {n q k lower base room : ℕ} {cut caps seats counts next prev out by :
               small = u.kept.small;
               fixed = λ b h.
                   let w = v b (omega (arith, h, t.less)) in
-                  let e : get_or seats' b 0 ≡ get_or seats b 0 = (u.kept.fixed b h).1 (get_or seats' b 0) (fewer b (get_or seats' b 0) w.1) in
+                  let e : get_or seats' b 0 ≡ get_or seats b 0 =
+                  (u.kept.fixed b h).1 (get_or seats' b 0) (fewer b (get_or seats' b 0) w.1) in
                   (w.0, λ d c. (u.kept.fixed b h).1 d c ∙ sym e);
             };
             long = u.long;
@@ -201,7 +203,8 @@ module _ {n q k lower base room : ℕ} {cut caps seats counts next prev out by :
       own_apart : has x (get_or seats k 0) ≡ false
       own_apart =
           not_here (has x (get_or seats k 0)) (λ s.
-          differ (rw (t.opened (get_or seats k 0), eq-eqb (get_or seats k 0) (get_or seats k 0) refl) refl) (c.caught.full (get_or seats k 0) s))
+          differ (rw (t.opened (get_or seats k 0), eq-eqb (get_or seats k 0) (get_or seats k 0) refl) refl)
+          (c.caught.full (get_or seats k 0) s))
 
       module _ {seats₃ counts₃ next₃ prev₃ out₃ : List ℕ} {old₃ : ℕ}
           (b : Shifted k old (set (set cut k lower) k (get_or cut k 0)) seats₂ counts₂ next₂ prev₂ out₂
@@ -238,7 +241,8 @@ module _ {n q k lower base room : ℕ} {cut caps seats counts next prev out by :
               steps = c.long;
             }
 
-        pub stayed : Stayed n q k lower cut caps seats counts (set (set cut k lower) k (get_or cut k 0)) seats₃ counts₃ next₃ prev₃ out₃ by₂ x
+        pub stayed : Stayed n q k lower cut caps seats counts (set (set cut k lower) k (get_or cut k 0)) seats₃ counts₃ next₃ prev₃
+            out₃ by₂ x
         stayed =
             record {
               copies = restored;

@@ -94,7 +94,8 @@ module _ {n q bound : ℕ} {seats next prev : List ℕ} (r : Ringed n q bound se
 
   -- where a block is at d, the last of the ring of d is one
   pub ringed_last : (d i : ℕ) → d ≤ n → bound ≤ i → i < q → get_or seats i 0 ≡ d
-      → (bound ≤ get_or prev (blocks_most + d) 0) × (get_or prev (blocks_most + d) 0 < q) × (get_or seats (get_or prev (blocks_most + d) 0) 0 ≡ d)
+      → (bound ≤ get_or prev (blocks_most + d) 0) × (get_or prev (blocks_most + d) 0 < q)
+      × (get_or seats (get_or prev (blocks_most + d) 0) 0 ≡ d)
   ringed_last d i h a l e =
       let c : ℕ = blocks_most + d in
       let t = node_place n q bound d h in

@@ -249,7 +249,8 @@ module _ (unit t : ℕ) (s : List ℕ) where
   module _ {v a : ℕ} (h : opening (3 ∷ []) unit t s 0 ≡ got v a) where
     pub check_blocks : {n : Note} → inside 0 blocks_most 6 s a ≡ refused n → plan_sheet unit t s 0 ≡ refused n
     unfolding plan_sheet plan_fields
-    check_blocks g = whole_refused (plan_fields unit t) s 0 (then (opening (3 ∷ []) unit t) _ s 0 h ∙ stops (inside 0 blocks_most 6) _ s a g)
+    check_blocks g =
+        whole_refused (plan_fields unit t) s 0 (then (opening (3 ∷ []) unit t) _ s 0 h ∙ stops (inside 0 blocks_most 6) _ s a g)
 
     module _ {q b : ℕ} (g : inside 0 blocks_most 6 s a ≡ got q b) where
       pub check_time : {n : Note} → time_of q s b ≡ refused n → plan_sheet unit t s 0 ≡ refused n

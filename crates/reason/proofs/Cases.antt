@@ -109,7 +109,11 @@ module _ {copies costs starts : List ℕ} (g : Spellable copies costs starts) {b
                 (λ s. forced_within.copied.small i e (omega (arith, l, n, long masks f.long))
                 (forced_copy i e ∙ sym (pick_false _ _ s) ∙ sym (kept_copy i e) ∙ t));
             some = λ i l. by_cases (ltb i b)
-                (λ s. (get_or disks i 0, kept_copy i (get_or disks i 0) ∙ pick_true _ _ s ∙ eq-eqb (get_or disks i 0) (get_or disks i 0) refl))
+                (λ s. (
+                  get_or disks i 0,
+                  kept_copy i (get_or disks i 0) ∙ pick_true _ _ s
+                      ∙ eq-eqb (get_or disks i 0) (get_or disks i 0) refl,
+                ))
                 (λ s. let x = forced_within.copied.some i (omega (arith, l, n, long masks f.long)) in
                 (x.0, kept_copy i x.0 ∙ pick_false _ _ s ∙ sym (forced_copy i x.0) ∙ x.1));
           };

@@ -438,7 +438,8 @@ pub answered_of : {len : ℕ} {n : Note} {o : Out Said} {r : Request} → o ≡ 
 answered_of {len} {n} {o} {r} h a = subst (λ (x : Out Said). Told len x r) (sym h) a
 
 module _ (unit t n : ℕ) (out : ℕ → Bool) (s : List ℕ) where
-  pub sheet_next : {h : Head} {e : ℕ} → heading unit t n s 0 ≡ got h e → request_sheet unit t n out s 0 ≡ whole (body h (last_disk n) out) s e
+  pub sheet_next : {h : Head} {e : ℕ} → heading unit t n s 0 ≡ got h e
+      → request_sheet unit t n out s 0 ≡ whole (body h (last_disk n) out) s e
   unfolding request_sheet
   sheet_next w = whole_next (heading unit t n) (λ h. body h (last_disk n) out) s 0 w
 

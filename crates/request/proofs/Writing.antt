@@ -332,7 +332,8 @@ module _ (k t a n q : ℕ) (d : Draft) where
           module _ (few : n ≤ disks_most) where
             pub headed_long : blocks_most < q → headed k t a n q d ≡ none (unplaced 6)
             headed_long l =
-                counts ∙ pick_false _ _ (ne_eqb n 0 known) ∙ pick_false _ _ (le-ltb disks_most n few) ∙ pick_true _ _ (lt-ltb blocks_most q l)
+                counts ∙ pick_false _ _ (ne_eqb n 0 known) ∙ pick_false _ _ (le-ltb disks_most n few)
+                ∙ pick_true _ _ (lt-ltb blocks_most q l)
 
   pub headed_pass : HeadingFits k t a n q → headed k t a n q d ≡ d
   headed_pass h =

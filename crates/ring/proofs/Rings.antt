@@ -187,7 +187,8 @@ module _ {N : ℕ → Bool} {home : ℕ → ℕ} {next prev : List ℕ} (r : Rin
           rank = rank'';
           small = each (λ x. x < nodes_most) (omega arith) r.small;
           forth = each
-              (λ x. (And N b (get_or next'' x 0) ≡ true) × (home' (get_or next'' x 0) ≡ home' x) × (get_or prev'' (get_or next'' x 0) 0 ≡ x)) (
+              (λ x. (And N b (get_or next'' x 0) ≡ true) × (home' (get_or next'' x 0) ≡ home' x)
+              × (get_or prev'' (get_or next'' x 0) 0 ≡ x)) (
                 ap (And N b) next_b ∙ of_old c t,
                 ap home' next_b ∙ hs c t ∙ sym hb,
                 ap (λ (y : ℕ). get_or prev'' y 0) next_b ∙ prev_first,
@@ -250,7 +251,8 @@ module _ {N : ℕ → Bool} {home : ℕ → ℕ} {next prev : List ℕ} (r : Rin
           subst (Comes next (get_or next c 0)) p.1
           (comes_more next (get_or next c 0) (get_or prev y 0)
           (upto m (get_or prev y 0) (omega (arith, k, r.rise y t l v)) p.0 v (home_back r y t ∙ e)) v))
-          (λ u. let i : get_or prev y 0 ≡ c = only (get_or prev y 0) p.0 (ltb-false (get_or prev y 0) blocks_most u) (home_back r y t ∙ e) in
+          (λ u. let i : get_or prev y 0 ≡ c =
+          only (get_or prev y 0) p.0 (ltb-false (get_or prev y 0) blocks_most u) (home_back r y t ∙ e) in
           (0, walk_none next (get_or next c 0) ∙ ap (λ (j : ℕ). get_or next j 0) (sym i) ∙ p.1))
 
   -- the blocks that stand behind x

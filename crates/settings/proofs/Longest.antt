@@ -69,17 +69,20 @@ longest_accepted unit t s T e b h =
 
 -- one is as long: 64 disks, each with the greatest cost, load and delay
 pub longest_reached : (r : Rule) → (bs : List ℕ)
-    × (settings_draft r 4294967295 4294967295 (replicate disks_most cost_most) (replicate disks_most load_most) (replicate disks_most delay_most)
+    × (settings_draft r 4294967295 4294967295 (replicate disks_most cost_most) (replicate disks_most load_most)
+    (replicate disks_most delay_most)
     ≡ sheet bs)
     × (length bs ≡ 652)
-unfolding settings_draft sheet_draft lists_fit pick all_in_range in_range rows_of kind_of rule_number sheet_bytes heading_bytes rule_bytes opening_bytes
+unfolding settings_draft sheet_draft lists_fit pick all_in_range in_range rows_of kind_of rule_number sheet_bytes heading_bytes
+    rule_bytes opening_bytes
     spell_all row_bytes mark_bytes encode encode_by
 longest_reached Sum = (sheet_bytes 1 4294967295 4294967295 1 (replicate disks_most (disk cost_most load_most delay_most 0)), refl, refl)
 longest_reached Larger = (sheet_bytes 5 4294967295 4294967295 2 (replicate disks_most (disk cost_most load_most delay_most 0)), refl, refl)
 
 -- and with marks
 pub longest_marked : (bs : List ℕ)
-    × (marked_draft 4294967295 4294967295 2 (replicate disks_most cost_most) (replicate disks_most load_most) (replicate disks_most delay_most)
+    × (marked_draft 4294967295 4294967295 2 (replicate disks_most cost_most) (replicate disks_most load_most)
+    (replicate disks_most delay_most)
     (replicate disks_most 1) ≡ sheet bs)
     × (length bs ≡ settings_most)
 unfolding sheet_draft lists_fit pick all_in_range in_range rows_of sheet_bytes heading_bytes rule_bytes opening_bytes spell_all

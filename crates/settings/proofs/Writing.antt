@@ -154,7 +154,8 @@ pub rule_small : (k r : ℕ) → r ≤ 2 → length (rule_bytes k r) ≤ 1
 rule_small k r h = omega (arith, rule_length k r h, bit_le (eqb k 6))
 
 module _ (k unit t : ℕ) (small : k < 128) where
-  heading_length : (n r : ℕ) → n ≤ disks_most → length (heading_bytes k unit t n r) ≡ 2 + width_of unit + width_of t + length (rule_bytes k r)
+  heading_length : (n r : ℕ) → n ≤ disks_most
+      → length (heading_bytes k unit t n r) ≡ 2 + width_of unit + width_of t + length (rule_bytes k r)
   unfolding heading_bytes width_of
   heading_length n r h =
       omega (

@@ -154,7 +154,8 @@ settings_far s at l =
 request_far : (s : List ℕ) (at : ℕ) → at ≤ length s → Far (length s) at (4 + request_most) (4 + request_most) (of_request s at)
 unfolding of_request ◌>>=◌ pure Far
 request_far s at l =
-    far_then (length s) at 2 5 (4 + request_most) (4 + request_most) (inside 0 room_most 6 s at) _ (inside_far s at 0 room_most l (omega arith))
+    far_then (length s) at 2 5 (4 + request_most) (4 + request_most) (inside 0 room_most 6 s at) _
+    (inside_far s at 0 room_most l (omega arith))
     (omega arith) λ room e q i j.
     far_then (length s) at (4 + request_most) (4 + request_most) (4 + request_most) (4 + request_most) (sheet s e) _
     (far_on (length s) at e (2 + request_most) (2 + request_most) (4 + request_most) (4 + request_most) (sheet s e) (sheet_far s e i)

@@ -29,7 +29,8 @@ use Rattle.planner.specs.Answered.{draft_of}
 use Rattle.model.specs.Case.{in_use}
 use Rattle.planner.specs.Asked.{is_out, case_in, Plans, asked as asked_case}
 use Rattle.unit.specs.Unit.{new_unit, tenancy_of, tenanted, returned}
-use Rattle.desk.specs.Desk.{broken_rows, settings_draft_of_bytes, marked_draft_of_bytes, tenancy_with, request_draft_of_bytes, plan_if_room, set_left}
+use Rattle.desk.specs.Desk.{broken_rows, settings_draft_of_bytes, marked_draft_of_bytes}
+use Rattle.desk.specs.Desk.{tenancy_with, request_draft_of_bytes, plan_if_room, set_left}
 use Rattle.lent.specs.Numbers.{value_of, bytes_of, first_numbers, numbers, broken}
 use Rattle.lent.specs.Packed.{pack_plan, pack_refused, writer_answer, reader_answer}
 use Rattle.line.specs.Text.{digit, digits_by, decimal, spaced, pair, hex}
@@ -55,13 +56,15 @@ field_opened = Unit
 
 unfoldable pub settings_opened : Type 0
 unfolding
-    field_opened rows_of kind_of rule_number rule_bytes settings_heading_bytes sheet_bytes lists_fit sheet_draft settings_draft mark row in_range
+    field_opened rows_of kind_of rule_number rule_bytes settings_heading_bytes sheet_bytes lists_fit sheet_draft settings_draft mark
+    row in_range
     all_in_range mark_bytes row_bytes rule_in rule settings_heading settings_body fields settings_sheet pad_to table no_table table_of
 settings_opened = Unit
 
 unfoldable pub request_opened : Type 0
 unfolding
-    field_opened has bit sum count mask_of disks_below disks_of block_bytes age_bytes heading_bytes request_bytes aged headed checked request_draft
+    field_opened has bit sum count mask_of disks_below disks_of block_bytes age_bytes heading_bytes request_bytes aged headed checked
+    request_draft
     last_disk used block request_opening age heading body request_sheet
 request_opened = Unit
 
@@ -73,7 +76,8 @@ plan_opened = Unit
 
 unfoldable pub unit_opened : Type 0
 unfolding
-    settings_opened request_opened takes refuses rent settled set give_back is_out in_use case_in asked_case Plans draft_of new_unit tenancy_of
+    settings_opened request_opened takes refuses rent settled set give_back is_out in_use case_in asked_case Plans draft_of new_unit
+    tenancy_of
     tenanted returned
 unit_opened = Unit
 

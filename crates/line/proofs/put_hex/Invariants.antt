@@ -8,7 +8,8 @@ use Rattle.line.proofs.put_hex.Given as goal
 
 abbrev pub invariant-loop-i : goal.invariant-loop-i
 invariant-loop-i l =
-    (l.i ≤ length l.xs) × Adds (spell_all pair (take l.i l.xs)) l.initial.out l.at l.out (l.at + 2 * l.i) × (length l.out ≡ length l.initial.out)
+    (l.i ≤ length l.xs) × Adds (spell_all pair (take l.i l.xs)) l.initial.out l.at l.out (l.at + 2 * l.i)
+    × (length l.out ≡ length l.initial.out)
 
 abbrev pub decreases-loop-i : goal.decreases-loop-i
 decreases-loop-i l = length l.xs - l.i

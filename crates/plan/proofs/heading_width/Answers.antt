@@ -10,7 +10,8 @@ pub overflow_add-result-2 : goal.overflow_add-result-2
 overflow_add-result-2 c = omega (arith, width_small _ _ c.width-2.ensures, width_small _ _ c.width.ensures)
 
 pub overflow_add-result-3 : goal.overflow_add-result-3
-overflow_add-result-3 c = omega (arith, width_small _ _ c.width-3.ensures, width_small _ _ c.width-2.ensures, width_small _ _ c.width.ensures)
+overflow_add-result-3 c =
+    omega (arith, width_small _ _ c.width-3.ensures, width_small _ _ c.width-2.ensures, width_small _ _ c.width.ensures)
 
 pub overflow_add-result-4 : goal.overflow_add-result-4
 overflow_add-result-4 c = omega (

@@ -29,14 +29,16 @@ pub returns-then-out-length : goal.returns-then-out-length
 returns-then-out-length c =
     -- the length that was found is the request's
     let long : let a = c.args in
-    length (request_bytes a.kind a.unit a.tenancy a.age a.copies.now) ≡ c.heading_width.result + a.n = request_length _ _ _ _ _ c.heading_width.ensures c.requires.1 in
+    length (request_bytes a.kind a.unit a.tenancy a.age a.copies.now) ≡ c.heading_width.result + a.n =
+    request_length _ _ _ _ _ c.heading_width.ensures c.requires.1 in
     sent_long _ _ (sym long) c.if-out-length.true
 
 pub put_heading-p-requires : goal.put_heading-p-requires
 put_heading-p-requires c =
     -- the length that was found is the request's
     let long : let a = c.args in
-    length (request_bytes a.kind a.unit a.tenancy a.age a.copies.now) ≡ c.heading_width.result + a.n = request_length _ _ _ _ _ c.heading_width.ensures c.requires.1 in
+    length (request_bytes a.kind a.unit a.tenancy a.age a.copies.now) ≡ c.heading_width.result + a.n =
+    request_length _ _ _ _ _ c.heading_width.ensures c.requires.1 in
     -- past the test there is room for it
     let room : let a = c.args in
     length (request_bytes a.kind a.unit a.tenancy a.age a.copies.now) ≤ length a.out.now = omega (arith, long, c.if-out-length.false) in
@@ -46,7 +48,8 @@ pub put_blocks-e-requires : goal.put_blocks-e-requires
 put_blocks-e-requires c =
     -- the length that was found is the request's
     let long : let a = c.args in
-    length (request_bytes a.kind a.unit a.tenancy a.age a.copies.now) ≡ c.heading_width.result + a.n = request_length _ _ _ _ _ c.heading_width.ensures c.requires.1 in
+    length (request_bytes a.kind a.unit a.tenancy a.age a.copies.now) ≡ c.heading_width.result + a.n =
+    request_length _ _ _ _ _ c.heading_width.ensures c.requires.1 in
     -- past the test there is room for it
     let room : let a = c.args in
     length (request_bytes a.kind a.unit a.tenancy a.age a.copies.now) ≤ length a.out.now = omega (arith, long, c.if-out-length.false) in
@@ -56,7 +59,8 @@ pub returns : goal.returns
 returns c =
     -- the length that was found is the request's
     let long : let a = c.args in
-    length (request_bytes a.kind a.unit a.tenancy a.age a.copies.now) ≡ c.heading_width.result + a.n = request_length _ _ _ _ _ c.heading_width.ensures c.requires.1 in
+    length (request_bytes a.kind a.unit a.tenancy a.age a.copies.now) ≡ c.heading_width.result + a.n =
+    request_length _ _ _ _ _ c.heading_width.ensures c.requires.1 in
     -- past the test there is room for it
     let room : let a = c.args in
     length (request_bytes a.kind a.unit a.tenancy a.age a.copies.now) ≤ length a.out.now = omega (arith, long, c.if-out-length.false) in
