@@ -3,8 +3,8 @@
 #   CRATE/NAME      a wrong program or definition on file, in crates/CRATE/must-fail or crates/CRATE/wrong
 #   a path          a file or folder, from the top or from crates/
 #   CRATE::NAME     a function of that crate
-#   words           each name with an underscore is a definition's, a theorem's or one of the code, and none of a comment or an edit
-#                   alone; every other word stands in crates/, hosts/, include/, tests/ or second/
+#   words           each name with an underscore is a definition's, a theorem's, a crate's or one of the code, and none of a comment or
+#                   an edit alone; every other word stands in crates/, hosts/, include/, tests/ or second/
 # and docs/PROMISES.md has every public function.
 cd "$(dirname "$0")/.." || exit 1
 LC_ALL=C.UTF-8
@@ -20,6 +20,7 @@ find crates hosts include tests second/src Makefile crates.txt -type f ! -name p
     find crates hosts include tests second/src -type f ! -path '*/target/*' ! -path '*/out/*' \
         \( -name '*.rt' -o -name '*.rs' -o -name '*.c' -o -name '*.h' -o -name '*.cpp' \) -exec sed -E 's,//.*,,; /^ *\/?\*/d; s,/\*.*,,' {} + \
         | grep -oaE "[A-Za-z][A-Za-z0-9_]*"
+    sed -nE 's/^([a-z][a-z0-9_]*).*:.*/\1/p' crates.txt
 } | sort -u >"$room/defined"
 
 for paper in docs/PROMISES.md docs/COVERAGE.md; do
