@@ -3,7 +3,7 @@
 --     unplaced     a refusal for which no sheet is at fault: its place is 0
 --     Out          what reading gives: a value and the place after it, or a refusal
 --     Parser       reads a sheet from a place on
---     _>>=_, _>>_  one reader, then another at the place where the first ended
+--     ◌>>=◌, ◌>>◌  one reader, then another at the place where the first ended
 --     pure         reads nothing
 --     here         the present place; reads nothing
 --     require      goes on where a test holds, else refuses

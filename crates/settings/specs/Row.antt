@@ -3,7 +3,7 @@
 --     cost, load, delay       the fields of a row, each within its range
 --     mark                    the mark of a disk, 0 in use or 1 out: a field of kind 6 alone, else 0
 --     row                     the row as it is read from a sheet of a kind
---     inRange, all_in_range     whether the values of a row, and of each row, are in these ranges
+--     in_range, all_in_range     whether the values of a row, and of each row, are in these ranges
 --     mark_bytes, row_bytes     the mark and the row as they are written on a sheet of a kind
 use Rattle.std.specs.Prelude.{ℕ, Bool, true, ◌&&◌, List, [], ◌∷◌, ◌++◌, eqb, leb}
 use Rattle.basics.specs.Choice.{pick}
