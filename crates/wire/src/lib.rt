@@ -9,7 +9,7 @@ use std::io::{ErrorKind, Read};
 use std::{fmt, io};
 
 // What one read came to: so many bytes; none yet; the end of the input; or it failed, and standard error says why.
-#[derive(Drop)]
+#[derive(Clone, Copy)]
 pub enum Input {
     Bytes(usize),
     Later,
@@ -18,7 +18,7 @@ pub enum Input {
 }
 
 // What was read of an input: so many bytes, all of it or all that has room; or a read failed, and standard error says why.
-#[derive(Drop)]
+#[derive(Clone, Copy)]
 pub enum Filled {
     Bytes(usize),
     Failed,
