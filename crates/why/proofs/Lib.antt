@@ -1,4 +1,5 @@
 pub mod Within
 pub mod Answers
 pub mod Unique
+pub mod Timed
 pub mod Out

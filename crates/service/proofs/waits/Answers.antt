@@ -4,7 +4,7 @@ use Rattle.field.specs.declared.Refusal.{Refusal}
 use Rattle.field.specs.Refusal.{number_of}
 use Rattle.field.specs.Sheet.{note}
 use Rattle.service.specs.Shelf.{waits}
-use Rattle.service.proofs.Others.{waits_not}
+use Rattle.service.proofs.Others.{waits_else}
 use Rattle.service.proofs.waits.Goals as goal
 
 pub returns-in-SheetEnds : goal.returns-in-SheetEnds
@@ -14,4 +14,4 @@ returns-in-SheetEnds c =
     (sym c.in-SheetEnds.is)
 
 pub returns-in_default : goal.returns-in_default
-returns-in_default c = waits_not c.args.e.refusal c.args.e.place c.args.ended c.in_default.not-SheetEnds
+returns-in_default c = waits_else c.args.e.refusal c.args.e.place c.args.ended c.in_default.not-SheetEnds
