@@ -34,5 +34,6 @@ tried=$(grep -c '^rt: must-fail ' "$log" || true)
 grep '^rt: must-fail ' "$log" | grep -v ': refused, as it must be' >"$log.not" || true
 grep 'as it must be (only b' "$log" || true
 cat "$log.not"
+[ "$tried" -gt 0 ] || { echo "edits: none was tried" >&2; exit 1; }
 echo "edits: $((tried - $(wc -l <"$log.not"))) refused, $(wc -l <"$log.not") not"
 exit $status
