@@ -4,3 +4,4 @@ pub mod Count
 pub mod Lists
 pub mod Buffer
 pub mod Padded
+pub mod Question

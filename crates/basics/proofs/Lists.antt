@@ -3,6 +3,7 @@
 --     all_at, all_by, rises_by     each value by its place; numbers that rise by their places
 --     listed_at, listed_some, listed_not, listed_take     what stands at a place is listed, and the other way round; a part of a list
 --     listed_one, one_listed     a list of one number
+--     listed_is_any     the library's test of a list
 --     rising_same      two rising lists of the same numbers are the same
 use Prim.Native.Nat.{ℕ, zero, suc, ◌+◌, ◌≤◌, ◌<◌}
 use mathlib.Core.Path.{◌≡◌, refl, sym, ap, ◌∙◌, subst}
@@ -14,6 +15,7 @@ use borrow.Author.Tests.{eq-eqb, ne_eqb, eqb-true, eqb-false}
 use lib.Dec.{eqb}
 use lib.ListN.{length, get_or, take, replicate}
 use lib.Seq.{get_or-take, length-take-le}
+use Rattle.std.specs.List.{list_any}
 use Rattle.basics.specs.Count.{any}
 use Rattle.basics.specs.Lists.{All, Rises, listed}
 use Rattle.basics.proofs.Tests.{by_cases, below_or, differ, not_here, or_elim, or_right}
@@ -150,3 +152,9 @@ rising_same floor high (x ∷ xs) (y ∷ ys) r q h =
     let k : Same high (x ∷ xs) (x ∷ ys) = λ b l. h b l ∙ ap (λ (z : ℕ). listed (z ∷ ys) b) e in
     ap (λ (z : List ℕ). x ∷ z) (rising_same (x + 1) high xs ys r.2 g (same_rest high x xs ys r.2 g k))
     ∙ ap (λ (z : ℕ). z ∷ ys) (sym e)
+
+-- the library's test of a list
+pub listed_is_any : (xs : List ℕ) (b : ℕ) → list_any (λ x. eqb x b) xs ≡ listed xs b
+unfolding listed
+listed_is_any [] b = refl
+listed_is_any (x ∷ xs) b = ap (λ (t : Bool). eqb x b || t) (listed_is_any xs b)

@@ -33,6 +33,7 @@ pub const PLACES: usize = DISKS + 1;
 // What stands in rings: the blocks, and for each place where its ring begins.
 pub const NODES: usize = BLOCKS + PLACES;
 
+// Of fixed lengths: the library crates have no heap.
 // Copies of each block as a number; the place of each block; a number for each disk, and for each place.
 pub type Masks = [u64; BLOCKS];
 

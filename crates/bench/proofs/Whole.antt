@@ -1,5 +1,5 @@
 -- What stands in the buffer gives the line of all of the input.
-use mathlib.Core.Path.{◌≡◌, ap, ◌∙◌}
+use mathlib.Core.Path.{ap, ◌∙◌}
 use mathlib.Core.List.{List, ◌++◌, append-nil}
 use Prim.Native.Nat.{ℕ, ◌≤◌, ◌<◌}
 use native.Mathlib.Omega.{arith}
@@ -11,9 +11,6 @@ use Rattle.basics.proofs.Tests.{by_cases}
 use Rattle.console.specs.Bench.{input_most, bench_input, Tells}
 use Rattle.console.proofs.Benching.{tells_same}
 use Rattle.console.proofs.Cut.{bench_more}
-use Rattle.wire.specs.declared.Filled.{Filled}
-use Rattle.wire.specs.declared.Filled.TheVariants.{Bytes}
-use Rattle.wire.specs.Input.{count, Fills}
 use Rattle.bench.specs.Parts.{Answers}
 
 pub answers : (input : List ℕ) (n : ℕ) {out : List ℕ} {r : ℕ} {after : List ℕ} → n ≤ length input → input_most < length input
@@ -27,8 +24,3 @@ answers input n l m t = record {
       ∙ ap (λ (x : List ℕ). bench_input x 0) (append-nil (take n input))))
       t;
 }
-
--- what was read lies within the buffer
-pub read_within : {buf : List ℕ} {x : Filled} {after : List ℕ} (n : ℕ) → Fills buf x after → x ≡ Bytes n → n ≤ length after
-unfolding count
-read_within n w e = omega (arith, w.within, w.size, ap count e)

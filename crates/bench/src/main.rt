@@ -7,7 +7,7 @@ ghost use Rattle.bench.specs.Parts.{Answers};
 
 use console::INPUT_MOST;
 use line::{LINE_MOST, Line};
-use wire::Filled;
+use wire::Failed;
 
 // One byte more than the longest input shows that input follows the second sheet.
 const BUFFER: usize = INPUT_MOST + 1;
@@ -20,12 +20,15 @@ fn answer(input: &[u8], n: usize, line: &mut Line) -> usize
     console::bench(&input[..n], line)
 }
 
-fn main(rt: HostRuntime) {
+fn run(rt: &HostRuntime) -> Result<(), Failed> {
     let mut input = [0u8; BUFFER];
     let mut line = [0u8; LINE_MOST];
-    let mut stdin = rt.stdin();
-    if let Filled::Bytes(n) = wire::read_all(&rt, &mut stdin, &mut input) {
-        let length = answer(&input, n, &mut line);
-        wire::print(&rt, &line[..length]);
-    }
+    let n = wire::read_all(rt, &mut rt.stdin(), &mut input)?;
+    let length = answer(&input, n, &mut line);
+    wire::print(rt, &line[..length])
+}
+
+// What failed is told by then, and the status is the same.
+fn main(rt: HostRuntime) {
+    let _ = run(&rt);
 }

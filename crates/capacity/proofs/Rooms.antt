@@ -1,31 +1,33 @@
 -- The capacities of some disks at a time, summed.
---     Left, left_all            disks of a mask that are still to come, at first all
---     left_has, left_disk       the lowest of them is one, and below n
---     left_less, left_next, left_room    without it they are fewer, and have its capacity less
---     room_none, room_most      no disks have no room; the sum is no large number
+--     Left, left_all, left_next disks of a mask that are still to come, at first all, each turn without the first of them
+--     rooms, rooms_all          the capacities of the disks of a list, summed; those of a mask's disks are its room
+--     rooms_first, rooms_end    without its first disk the list has its capacity less; at its end all is summed
+--     room_most                 the sum is no large number
 --     room_grows, room_more     a later time has no less room, and more where one disk has read more
---     alone_late, alone_soon    a disk reads m blocks in m times its cost, from its start on
+--     able_at, alone_at         a disk reads blocks from its start on, m of them in m times its cost
 --     enough_alone, enough_last    times at which there is enough room: when one disk alone has it, and the end of all times
 --     first_room_unique         there is one first time
-use Prim.Native.Nat.{ℕ, zero, suc, ◌+◌, ◌-◌, ◌*◌, ◌/◌, ◌≤◌, ◌<◌, ◌^◌}
+use Prim.Native.Nat.{ℕ, zero, suc, ◌+◌, ◌-◌, ◌*◌, ◌/◌, ◌≤◌, ◌<◌, ◌^◌, min, max}
 use mathlib.Core.Path.{◌≡◌, ap, sym, ◌∙◌}
 use mathlib.Core.Logic.{⊎_elim}
-use mathlib.Core.Bool.{Bool, true, not, ◌&&◌}
-use mathlib.Core.List.{List}
-use native.Mathlib.Nat.{le_antisymm, le-mul_of_pos_right, div-le_self, mul-div_cancel, add-mul-div_right}
+use mathlib.Core.Bool.{true}
+use mathlib.Core.List.{List, [], ◌∷◌}
+use native.Mathlib.Nat.{le_antisymm, le-mul_of_pos_right, div-le_self, add-mul-div_right}
 use native.Mathlib.Omega.{arith}
-use lib.Dec.{eqb, ltb}
+use lib.Dec.{ltb}
 use lib.ListN.{get_or}
-use borrow.Author.Tests.{ltb-true, ltb-false, eq-eqb, ne_eqb}
+use borrow.Author.Tests.{ltb-true, ltb-false}
 use Rattle.basics.specs.Limits.{disks_most, time_most}
+use Rattle.basics.specs.Lists.{All}
 use Rattle.mask.specs.Has.{has}
-use Rattle.mask.specs.Lowest.{Lowest}
-use Rattle.mask.proofs.Has.{has_zero, clear_lt}
-use Rattle.mask.proofs.Zeros.{lowest_has}
+use Rattle.mask.specs.Disks.{disks_of}
+use Rattle.mask.proofs.Listed.{disks_held, disks_total, each_first}
+use Rattle.std.specs.List.{sum_by}
+use Rattle.std.proofs.lemmas.List.Sums.{sum_by-cons}
 use Rattle.basics.specs.Count.{sum, gate}
 use Rattle.model.specs.Capacity.{capacity}
-use Rattle.basics.proofs.Tests.{by_cases, and_right, below_suc}
-use Rattle.basics.proofs.Count.{gate_true, gate_false, gate_le, gate_mono, sum_le, sum_zero, sum_point}
+use Rattle.basics.proofs.Tests.{by_cases, below_suc}
+use Rattle.basics.proofs.Count.{gate_true, gate_le, gate_mono, sum_le}
 use Rattle.model.proofs.Capacity.{capacity_before, capacity_after, capacity_grows}
 use Rattle.places.specs.Table.{Table}
 use Rattle.capacity.specs.Capacities.{Small, room_of, Awaited, FirstRoom}
@@ -33,41 +35,38 @@ use Rattle.capacity.specs.Parts.{Alone, Enough}
 
 -- ---- the disks of a mask one by one
 
--- rest has disks of x, which are below n
-pub record Left (n x rest : ℕ) : Type 0 where
-  pub small : Small n x
-  pub part : (d : ℕ) → has rest d ≡ true → has x d ≡ true
-  pub fits : rest < 2 ^ disks_most
+-- ds are disks of x, and the first of them is below n
+pub record Left (n x : ℕ) (ds : List ℕ) : Type 0 where
+  pub each : All (λ d. has x d ≡ true) ds
+  pub small : (d : ℕ) (rest : List ℕ) → ds ≡ d ∷ rest → d < n
 
-pub left_all : {n x : ℕ} → Small n x → x < 2 ^ disks_most → Left n x x
-left_all s h = record { small = s; part = λ d t. t; fits = h }
+module _ {n x : ℕ} (s : Small n x) where
+  left : {ds : List ℕ} → All (λ d. has x d ≡ true) ds → Left n x ds
+  left h = record { each = h; small = λ d rest e. s d (each_first _ e h).0 }
 
-module _ {n x m d : ℕ} (s : Left n x m) (z : m ≡ 0 → ⊥) (w : Lowest m d) where
-  pub left_has : has m d ≡ true
-  left_has = lowest_has m d s.fits (omega arith) w
+  pub left_all : Left n x (disks_of x)
+  left_all = left (disks_held x)
 
-  pub left_disk : d < n
-  left_disk = s.small d (s.part d left_has)
+  pub left_next : {ds rest : List ℕ} {d : ℕ} → Left n x ds → ds ≡ d ∷ rest → (has x d ≡ true) × Left n x rest
+  left_next l e = let p = each_first _ e l.each in (p.0, left p.1)
 
-  module _ {r : ℕ} (h : r < 2 ^ disks_most) (f : (e : ℕ) → has r e ≡ (not (eqb e d) && has m e)) where
-    pub left_less : r < m
-    left_less = clear_lt disks_most r m d h f left_has
+-- the capacities of the disks of a list at a time
+abbrev pub rooms : List ℕ → List ℕ → ℕ → List ℕ → ℕ
+rooms costs starts t ds = sum_by (λ d. capacity (get_or starts d 0) (get_or costs d 0) t) ds
 
-    pub left_next : Left n x r
-    left_next =
-        record { small = s.small; part = λ e t. s.part e (and_right (not (eqb e d)) (has m e) (sym (f e) ∙ t)); fits = h }
+pub rooms_all : (n : ℕ) (costs starts : List ℕ) (x t : ℕ) → n ≤ disks_most → x < 2 ^ disks_most → Small n x
+    → room_of n costs starts x t ≡ rooms costs starts t (disks_of x)
+rooms_all n costs starts x t = disks_total (λ d. capacity (get_or starts d 0) (get_or costs d 0) t) n x
 
-    pub left_room : (costs starts : List ℕ) (t : ℕ)
-        → room_of n costs starts m t ≡ room_of n costs starts r t + capacity (get_or starts d 0) (get_or costs d 0) t
-    left_room costs starts t =
-        let c : ℕ → ℕ = λ e. capacity (get_or starts e 0) (get_or costs e 0) t in
-        omega (
-          arith,
-          sum_point n (λ e. gate (has m e) (c e)) (λ e. gate (has r e) (c e)) d left_disk
-              (λ e _ k. ap (λ (b : Bool). gate b (c e)) (sym (f e ∙ ap (λ (b : Bool). not b && has m e) (ne_eqb e d k)))),
-          gate_true (has m d) (c d) left_has,
-          gate_false (has r d) (c d) (f d ∙ ap (λ (b : Bool). not b && has m d) (eq-eqb d d (omega arith))),
-        )
+module _ (costs starts : List ℕ) (t : ℕ) {ds : List ℕ} where
+  pub rooms_first : {d : ℕ} {rest : List ℕ} → ds ≡ d ∷ rest
+      → rooms costs starts t ds ≡ capacity (get_or starts d 0) (get_or costs d 0) t + rooms costs starts t rest
+  rooms_first {d} {rest} e =
+      let f : ℕ → ℕ = λ i. capacity (get_or starts i 0) (get_or costs i 0) t in
+      ap (sum_by f) e ∙ sum_by-cons f d rest
+
+  pub rooms_end : ds ≡ [] → rooms costs starts t ds ≡ 0
+  rooms_end e = ap (rooms costs starts t) e
 
 -- ---- sums of capacities
 
@@ -99,9 +98,6 @@ room_most n costs starts x t h =
     (λ d. let c : ℕ = capacity (get_or starts d 0) (get_or costs d 0) t in
     omega (arith, gate_le (has x d) c, capacity_most (get_or starts d 0) (get_or costs d 0) t))
 
-pub room_none : (n : ℕ) (costs starts : List ℕ) {x : ℕ} (t : ℕ) → x ≡ 0 → room_of n costs starts x t ≡ 0
-room_none n costs starts t e = sum_zero n _ (λ d l. gate_false (has _ d) _ (ap (λ (y : ℕ). has y d) e ∙ has_zero d))
-
 module _ {n : ℕ} {costs starts : List ℕ} (tb : Table n costs starts) (x t u : ℕ) (h : t ≤ u) where
   grows : (d : ℕ) → d < n → capacity (get_or starts d 0) (get_or costs d 0) t ≤ capacity (get_or starts d 0) (get_or costs d 0) u
   grows d l = capacity_grows (get_or starts d 0) (get_or costs d 0) t u (tb.priced d l) h
@@ -125,35 +121,40 @@ module _ {n : ℕ} {costs starts : List ℕ} (tb : Table n costs starts) (x t u 
 
 -- ---- one disk
 
-pub alone_late : {s c t m : ℕ} → 0 < c → t < s → Alone s c t m (s + m * c)
-alone_late {s} {c} {t} {m} p h =
-    record {
-      later = omega (arith, le-mul_of_pos_right m p);
-      reads = capacity_after s c (s + m * c) (omega arith) ∙ ap (λ (y : ℕ). y / c) (omega arith) ∙ mul-div_cancel m p
-          ∙ omega (arith, capacity_before s c t h);
-    }
+-- the time that it has, over its cost
+pub able_at : (s c t : ℕ) → (t - s) / c ≡ capacity s c t
+able_at s c t =
+    by_cases (ltb t s)
+    (λ e. let l = ltb-true t s e in
+    let z : t - s ≡ 0 = omega arith in
+    ap (λ (y : ℕ). y / c) z ∙ omega (arith, div-le_self 0 c, capacity_before s c t l))
+    (λ e. sym (capacity_after s c t (ltb-false t s e)))
 
-pub alone_soon : {s c t m : ℕ} → 0 < c → s ≤ t → Alone s c t m (t + m * c)
-alone_soon {s} {c} {t} {m} p h =
+pub alone_at : {s c t m : ℕ} → 0 < c → Alone s c t m (max t s + m * c)
+alone_at {s} {c} {t} {m} p =
+    let k : max t s + m * c - s ≡ (t - s) + m * c = omega arith in
     record {
       later = omega (arith, le-mul_of_pos_right m p);
-      reads = capacity_after s c (t + m * c) (omega arith) ∙ ap (λ (y : ℕ). y / c) (omega arith) ∙ add-mul-div_right (t - s) m p
-          ∙ omega (arith, capacity_after s c t h);
+      reads = sym (able_at s c (max t s + m * c)) ∙ ap (λ (y : ℕ). y / c) k ∙ add-mul-div_right (t - s) m p
+          ∙ omega (arith, able_at s c t);
     }
 
 -- ---- times at which there is enough room
 
 module _ {n : ℕ} {costs starts : List ℕ} {t x more : ℕ} (a : Awaited n costs starts t x more) where
-  -- one of x's disks alone has read so many more
-  pub enough_alone : (d : ℕ) {r : ℕ} → has x d ≡ true → Alone (get_or starts d 0) (get_or costs d 0) t more r → r ≤ time_most
-      → Enough n costs starts t x more r
-  enough_alone d {r} h k l =
-      let e : t ≤ r = omega (arith, k.later) in
-      record {
+  -- sooner, if one of x's disks alone has read so many more then
+  pub enough_alone : (d : ℕ) {high r : ℕ} → has x d ≡ true → Alone (get_or starts d 0) (get_or costs d 0) t more r
+      → Enough n costs starts t x more high → Enough n costs starts t x more (min high r)
+  enough_alone d {high} {r} h k e =
+      by_cases (ltb high r)
+      (λ i. let l : min high r ≡ high = omega (arith, ltb-true high r i) in rw l e)
+      (λ i. let l : min high r ≡ r = omega (arith, ltb-false high r i) in
+      rw l
+      (record {
         later = omega (arith, k.later, a.some);
-        time = l;
-        after = room_more a.table x t r e d more (a.small d h) h (omega (arith, k.reads));
-      }
+        time = omega (arith, ltb-false high r i, e.time);
+        after = room_more a.table x t r (omega (arith, k.later)) d more (a.small d h) h (omega (arith, k.reads));
+      }))
 
   pub enough_last : Enough n costs starts t x more time_most
   enough_last =

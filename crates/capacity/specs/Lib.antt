@@ -1,2 +1,3 @@
 pub mod Capacities
 pub mod Parts
+pub mod Rated

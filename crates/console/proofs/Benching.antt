@@ -1,77 +1,67 @@
 -- Laws of the bench: a call's outcome, what is shown of a plan sheet, and each stage of the input.
 use mathlib.Core.Path.{◌≡◌, refl, sym, ap, ◌∙◌, subst}
 use mathlib.Core.List.{List}
-use Prim.Native.Nat.{ℕ, ◌-◌, ◌^◌, ◌≤◌, ◌<◌}
+use Prim.Native.Nat.{ℕ, ◌^◌, ◌≤◌, ◌<◌}
 use native.Mathlib.Omega.{arith}
 use borrow.Author.Tests.{le-leb, ltb-true}
 use lib.Dec.{ltb}
-use lib.ListN.{length, take, drop}
+use lib.ListN.{length, take}
+use Rattle.std.specs.Prelude.{Result, Ok, Err}
 use Rattle.basics.specs.Limits.{blocks_most, plan_most}
 use Rattle.basics.specs.Choice.{pick}
 use Rattle.basics.proofs.Choice.{pick_true, pick_elim}
 use Rattle.field.specs.declared.Fault.{Fault}
-use Rattle.field.specs.declared.Written.TheVariants.{Length, Refused as NotWritten}
 use Rattle.field.specs.Field.{number, end}
 use Rattle.field.specs.Refusal.{number_of, note_of}
-use Rattle.field.specs.Sheet.{Note, note, Out, got, refused, pure}
-use Rattle.field.proofs.Readers.{end_here, end_extra}
+use Rattle.field.specs.Sheet.{Note, Out, got, refused, pure}
 use Rattle.field.proofs.Sheet.{next, then, stops, halts}
 use Rattle.settings.specs.declared.Table.{Table}
 use Rattle.settings.specs.Sheet.{settings_sheet}
 use Rattle.plan.specs.declared.Head.{Head}
-use Rattle.plan.specs.declared.Answer.{Answer}
-use Rattle.plan.specs.declared.Answer.TheVariants.{Accepted, Refused as NoPlan}
 use Rattle.plan.specs.Draft.{plan_bytes}
 use Rattle.plan.specs.Plan.{Plan, plan_sheet}
 use Rattle.plan.specs.Range.{InRange}
 use Rattle.plan.specs.Receive.{if_room, heads, Received}
-use Rattle.plan.specs.Told.{told_plan}
 use Rattle.plan.proofs.Longest.{longest}
 use Rattle.basics.proofs.Buffer.{over_within, over_front}
 use Rattle.plan.proofs.Accepted.{Took, took}
 use Rattle.plan.proofs.RoundTrip.{sheet_read, same_plan}
 use Rattle.planner.proofs.Answers.{Unsent, denied, longer, plans_range, answered_sheet, answered_none}
 use Rattle.planner.proofs.Plans.{plans_unique}
-use Rattle.field.specs.declared.Verdict.{Verdict}
-use Rattle.field.specs.declared.Verdict.TheVariants.{Accepted as Taken, Refused as Denied}
 use Rattle.unit.specs.declared.Done.{Done}
 use Rattle.unit.specs.declared.Requested.{Requested}
 use Rattle.unit.specs.declared.Unit.{Unit}
-use Rattle.unit.specs.Life.{accepted, Outcome, takes, refuses, rent, settled, set}
+use Rattle.unit.specs.Life.{accepted, Outcome, rent, settled, set}
 use Rattle.unit.specs.Request.{asked_of, Replied}
 use Rattle.unit.specs.Sound.{Sound}
 use Rattle.unit.specs.Told.{told, told_verdict}
 use Rattle.unit.specs.Unit.{new_unit, tenancy_of, tenanted}
 use Rattle.unit.proofs.Sound.{sound_new, sound_rent, sound_set}
 use Rattle.unit.proofs.Replies.{replied_as}
-use Rattle.line.specs.declared.Word.TheVariants.{Refused}
 use Rattle.console.specs.Bench.{Ready, judge, accept, close, apply, hire, bench_input, answer_line, Asks, Line, Tells}
-use Rattle.console.specs.Parts.{Rented, Shows, Replies}
-use Rattle.stream.specs.Frame.{sheet, part}
-use Rattle.line.specs.Line.{spoken, plan_line}
+use Rattle.console.specs.Parts.{Rented, Shows, Replies, Readied}
+use Rattle.stream.specs.declared.Span.{Span}
+use Rattle.stream.specs.Frame.{sheet, at_span}
+use Rattle.line.specs.Line.{refused_text, plan_line}
 use Rattle.line.specs.Printed.{Printed}
 use Rattle.line.proofs.Adding.{printed_unique}
 
 -- ---- a call's outcome
 
 module _ (s : List ℕ) (at : ℕ) {o : Outcome} (d : Done) (h : told d ≡ o) where
-  pub outcome_taken : d.answer ≡ Taken → accept o s at ≡ got d.unit at
-  unfolding accept judge told told_verdict
-  outcome_taken q =
-      ap (λ (x : Outcome). judge x.verdict x.unit at) (sym h) ∙ ap (λ (v : Verdict). judge (told_verdict v) d.unit at) q
+  pub outcome_taken : d.answer ≡ Ok tt → accept o s at ≡ got d.unit at
+  unfolding accept judge
+  outcome_taken q = ap (λ (x : Outcome). judge x.verdict x.unit at) (sym h) ∙ ap (λ v. judge (told_verdict v) d.unit at) q
 
-  pub outcome_denied : (e : Fault) → d.answer ≡ Denied e → accept o s at ≡ refused (note_of e)
-  unfolding accept judge told told_verdict
-  outcome_denied e q =
-      ap (λ (x : Outcome). judge x.verdict x.unit at) (sym h) ∙ ap (λ (v : Verdict). judge (told_verdict v) d.unit at) q
+  pub outcome_denied : (e : Fault) → d.answer ≡ Err e → accept o s at ≡ refused (note_of e)
+  unfolding accept judge
+  outcome_denied e q = ap (λ (x : Outcome). judge x.verdict x.unit at) (sym h) ∙ ap (λ v. judge (told_verdict v) d.unit at) q
 
 -- the unit of an outcome
 pub outcome_unit : {o : Outcome} (d : Done) → told d ≡ o → o.unit ≡ d.unit
-unfolding told
 outcome_unit d h = ap (λ (x : Outcome). x.unit) (sym h)
 
-outcome_verdict : {o : Outcome} (d : Done) → told d ≡ o → d.answer ≡ Taken → o.verdict ≡ accepted
-unfolding told told_verdict
+outcome_verdict : {o : Outcome} (d : Done) → told d ≡ o → d.answer ≡ Ok tt → o.verdict ≡ accepted
 outcome_verdict d h q = ap (λ (x : Outcome). x.verdict) (sym h) ∙ ap told_verdict q
 
 -- ---- a rented unit
@@ -81,7 +71,7 @@ RentedBy : Outcome → Type 0
 RentedBy o = o.verdict ≡ accepted → 0 < tenancy_of o.unit
 
 rented_by : (u : Unit) (t : ℕ) → RentedBy (rent u t)
-unfolding RentedBy rent takes refuses tenanted tenancy_of pick
+unfolding RentedBy rent tenanted tenancy_of pick
 rented_by u t =
     pick_elim RentedBy u.rented _ _
     (λ _ q. absurd (let z : ◌≡◌ {A = ℕ} 0 1 = cc in omega arith))
@@ -91,7 +81,7 @@ rented_by u t =
 
 -- settings leave the tenancy as it was
 settled_tenancy : (u : Unit) (o : Out Table) → tenancy_of (settled u o).unit ≡ tenancy_of u
-unfolding settled takes refuses tenancy_of
+unfolding settled tenancy_of
 settled_tenancy u (got t e) = refl
 settled_tenancy u (refused n) = refl
 
@@ -99,7 +89,7 @@ set_tenancy : (u : Unit) (s : List ℕ) → tenancy_of (set u s).unit ≡ tenanc
 unfolding set
 set_tenancy u s = settled_tenancy u (settings_sheet u.number (tenancy_of u) s 0)
 
-pub rented_new : (n t : ℕ) (d : Done) → told d ≡ rent (new_unit n) t → d.answer ≡ Taken → Rented d.unit
+pub rented_new : (n t : ℕ) (d : Done) → told d ≡ rent (new_unit n) t → d.answer ≡ Ok tt → Rented d.unit
 unfolding RentedBy
 rented_new n t d h q =
     let e : (rent (new_unit n) t).unit ≡ d.unit = outcome_unit d h in
@@ -120,79 +110,83 @@ rented_set {u} s d w h =
 
 -- a refusal's line
 pub tells_refused : {o : Out Ready} {out after : List ℕ} {n : ℕ} (e : Fault) → o ≡ refused (note_of e)
-    → Printed (spoken (Refused (number_of e.refusal))) out n after → Tells o out n after
+    → Printed (refused_text (number_of e.refusal)) out n after → Tells o out n after
 unfolding Line
-tells_refused e h p = record { text = spoken (Refused (number_of e.refusal)); says = rw h refl; printed = p }
+tells_refused e h p = record { text = refused_text (number_of e.refusal); says = rw h refl; printed = p }
 
 -- another reader that gives the same
 pub tells_same : {o q : Out Ready} {out after : List ℕ} {n : ℕ} → q ≡ o → Tells o out n after → Tells q out n after
 tells_same {o} {q} {out} {after} {n} e w = subst (λ (x : Out Ready). Tells x out n after) (sym e) w
 
-module _ (u : Unit) (s : List ℕ) (at : ℕ) where
-  module _ (from to : ℕ) (h : sheet s at ≡ got (part s from to) to) where
-    -- the request
-    pub close_asks : {out after : List ℕ} {n : ℕ} → to ≡ length s → Replies u (part s from to) out n after
-        → Tells (close u s at) out n after
-    unfolding close pure Line
-    close_asks q w =
-        let e : close u s at ≡ got (record { unit = u; request = part s from to }) to = next sheet _ s at h
-        ∙ then end _ s to (end_here s to q) in
-        tells_same e (record { text = w.0; says = w.1; printed = w.2 })
+-- a refusal that was met, and handed on
+pub readied_refused : (s : List ℕ) {o : Out Ready} {r : Result (Unit × Span) Fault} {f : Fault} → r ≡ Err f → o ≡ refused (note_of f)
+    → Readied s o r
+readied_refused s {o} e h = subst (λ r. Readied s o r) (sym e) h
 
-    -- input after the second sheet
-    pub close_extra : (to ≡ length s → ⊥) → close u s at ≡ refused (note 9 to)
-    unfolding close
-    close_extra q = next sheet _ s at h ∙ halts end _ s to (end_extra s to q)
+-- the unit and its request
+pub tells_asked : (s : List ℕ) {o : Out Ready} {u : Unit} {w : Span} {out after : List ℕ} {n : ℕ} → Readied s o (Ok (u, w))
+    → Replies u (at_span s w) out n after → Tells o out n after
+unfolding Line
+tells_asked s {u = u} {w = w} r a = record { text = a.0; says = rw r.1 a.1; printed = a.2 }
 
-    -- the settings
-    module _ (d : Done) (t : told d ≡ set u (take (to - from) (drop from s))) where
-      pub apply_taken : d.answer ≡ Taken → apply u s at ≡ close d.unit s to
-      unfolding apply part
-      apply_taken q = next sheet _ s at h ∙ next (accept (set u (part s from to))) _ s to (outcome_taken s to d t q)
+-- unit and tenancy
+module _ (s : List ℕ) {n e : ℕ} (h : number s 0 ≡ got n e) where
+  pub input_hires : {t f : ℕ} → number s e ≡ got t f → bench_input s 0 ≡ hire n t s f
+  unfolding bench_input
+  input_hires k = next number _ s 0 h ∙ next number _ s e k
 
-      pub apply_denied : (e : Fault) → d.answer ≡ Denied e → apply u s at ≡ refused (note_of e)
-      unfolding apply part
-      apply_denied e q = next sheet _ s at h ∙ stops (accept (set u (part s from to))) _ s to (outcome_denied s to d t e q)
+  pub input_no_tenancy : {m : Note} → number s e ≡ refused m → bench_input s 0 ≡ refused m
+  unfolding bench_input
+  input_no_tenancy k = next number _ s 0 h ∙ stops number _ s e k
 
-  pub close_stops : (n : Note) → sheet s at ≡ refused n → close u s at ≡ refused n
-  unfolding close
-  close_stops n h = stops sheet _ s at h
+pub input_no_unit : (s : List ℕ) {m : Note} → number s 0 ≡ refused m → bench_input s 0 ≡ refused m
+unfolding bench_input
+input_no_unit s h = stops number _ s 0 h
 
-  pub apply_stops : (n : Note) → sheet s at ≡ refused n → apply u s at ≡ refused n
-  unfolding apply
-  apply_stops n h = stops sheet _ s at h
-
-module _ (n t : ℕ) (s : List ℕ) (at : ℕ) (d : Done) (h : told d ≡ rent (new_unit n) t) where
-  pub hire_taken : d.answer ≡ Taken → hire n t s at ≡ apply d.unit s at
+-- the rent
+module _ (n t : ℕ) (s : List ℕ) (at : ℕ) {d : Done} (h : told d ≡ rent (new_unit n) t) where
+  pub hire_taken : d.answer ≡ Ok tt → hire n t s at ≡ apply d.unit s at
   unfolding hire
   hire_taken q = next (accept (rent (new_unit n) t)) _ s at (outcome_taken s at d h q)
 
-  pub hire_denied : (e : Fault) → d.answer ≡ Denied e → hire n t s at ≡ refused (note_of e)
+  pub hire_denied : {e : Fault} → d.answer ≡ Err e → hire n t s at ≡ refused (note_of e)
   unfolding hire
-  hire_denied e q = stops (accept (rent (new_unit n) t)) _ s at (outcome_denied s at d h e q)
+  hire_denied {e} q = stops (accept (rent (new_unit n) t)) _ s at (outcome_denied s at d h e q)
 
-pub input_hires : (s : List ℕ) (n t e f : ℕ) → number s 0 ≡ got n e → number s e ≡ got t f → bench_input s 0 ≡ hire n t s f
-unfolding bench_input
-input_hires s n t e f h k = next number _ s 0 h ∙ next number _ s e k
+module _ (u : Unit) (s : List ℕ) (at : ℕ) where
+  -- the settings
+  module _ (w : Span) (h : sheet s at ≡ got (at_span s w) w.to) {d : Done} (t : told d ≡ set u (at_span s w)) where
+    pub apply_taken : d.answer ≡ Ok tt → apply u s at ≡ close d.unit s w.to
+    unfolding apply
+    apply_taken q = next sheet _ s at h ∙ next (accept (set u (at_span s w))) _ s w.to (outcome_taken s w.to d t q)
 
-pub input_no_tenancy : (s : List ℕ) (n e : ℕ) (m : Note) → number s 0 ≡ got n e → number s e ≡ refused m → bench_input s 0 ≡ refused m
-unfolding bench_input
-input_no_tenancy s n e m h k = next number _ s 0 h ∙ stops number _ s e k
+    pub apply_denied : {e : Fault} → d.answer ≡ Err e → apply u s at ≡ refused (note_of e)
+    unfolding apply
+    apply_denied {e} q = next sheet _ s at h ∙ stops (accept (set u (at_span s w))) _ s w.to (outcome_denied s w.to d t e q)
 
-pub input_no_unit : (s : List ℕ) (m : Note) → number s 0 ≡ refused m → bench_input s 0 ≡ refused m
-unfolding bench_input
-input_no_unit s m h = stops number _ s 0 h
+  pub apply_stops : {n : Note} → sheet s at ≡ refused n → apply u s at ≡ refused n
+  unfolding apply
+  apply_stops h = stops sheet _ s at h
+
+  -- the request and the end of the input
+  module _ (w : Span) (h : sheet s at ≡ got (at_span s w) w.to) where
+    pub close_got : {v e : ℕ} → end s w.to ≡ got v e → close u s at ≡ got (record { unit = u; request = at_span s w }) e
+    unfolding close pure
+    close_got k = next sheet _ s at h ∙ then end _ s w.to k
+
+    pub close_extra : {n : Note} → end s w.to ≡ refused n → close u s at ≡ refused n
+    unfolding close
+    close_extra k = next sheet _ s at h ∙ halts end _ s w.to k
+
+  pub close_stops : {n : Note} → sheet s at ≡ refused n → close u s at ≡ refused n
+  unfolding close
+  close_stops h = stops sheet _ s at h
 
 -- ---- the plan sheet, read back
 
--- what is known of an answer, where the answer is known
-pub received_as : {o : Out Plan} {n : ℕ} {disks short disks' short' : List ℕ} {a b : Answer} → Received o n disks short a disks' short'
-    → a ≡ b → Received o n disks short b disks' short'
-received_as {o} {n} {disks} {short} {disks'} {short'} w q = subst (λ (x : Answer). Received o n disks short x disks' short') q w
-
 module _ (unit t : ℕ) (s disks short : List ℕ) where
   module _ (h : Head) (disks' short' : List ℕ)
-      (w : Received (plan_sheet unit t s 0) (length s) disks short (Accepted h) disks' short') where
+      (w : Received (plan_sheet unit t s 0) (length s) disks short (Ok h) disks' short') where
     back : Took (plan_sheet unit t s 0) (length s) disks short h disks' short'
     back = took (length s) disks short h disks' short' (plan_sheet unit t s 0) w
 
@@ -218,10 +212,10 @@ module _ (unit t : ℕ) (s disks short : List ℕ) where
         ∙ e
 
   -- a plan sheet is never refused
-  pub back_never : (e : Fault) (disks' short' : List ℕ) → Received (plan_sheet unit t s 0) (length s) disks short (NoPlan e) disks' short'
+  pub back_never : (e : Fault) (disks' short' : List ℕ) → Received (plan_sheet unit t s 0) (length s) disks short (Err e) disks' short'
       → unit < 2 ^ 32 → t < 2 ^ 32 → length disks ≡ blocks_most → length short ≡ blocks_most → (p : Plan) → InRange p → 0 < t
       → s ≡ plan_bytes unit t p → ⊥
-  unfolding told_plan if_room heads
+  unfolding if_room heads
   back_never e disks' short' w a b m n p r l q =
       let x : plan_sheet unit t s 0 ≡ got p (length (plan_bytes unit t p)) = ap (λ (z : List ℕ). plan_sheet unit t z 0) q
       ∙ sheet_read unit t p a l b r in
@@ -235,13 +229,13 @@ module _ (unit t : ℕ) (s disks short : List ℕ) where
 -- ---- the request's answer
 
 unsent : {u : Unit} {s out : List ℕ} {e : Fault} → plan_most ≤ length out → Unsent u.number (tenancy_of u) (asked_of u s) out e
-    → Asks u s (spoken (Refused (number_of e.refusal)))
+    → Asks u s (refused_text (number_of e.refusal))
 unfolding answer_line
 unsent {e = e} room (denied w) = record { plan = refused (note_of e); plans = w; says = refl }
 unsent {u} {s} room (longer p i w l q) = absurd (omega (arith, longest u.number (tenancy_of u) p (plans_range (asked_of u s) p i w)))
 
 module _ {u : Unit} {s out after : List ℕ} {buf buf' : List ℕ} {m : ℕ} where
-  pub asks_shown : {r : Requested} {k n t : ℕ} → Replied u s out r after → r.answer ≡ Length n → 0 < tenancy_of u
+  pub asks_shown : {r : Requested} {k n t : ℕ} → Replied u s out r after → r.answer ≡ Ok n → 0 < tenancy_of u
       → k ≡ u.number → t ≡ tenancy_of u
       → Shows k t (take n after) buf m buf' → Replies u s buf m buf'
   unfolding answer_line
@@ -259,9 +253,9 @@ module _ {u : Unit} {s out after : List ℕ} {buf buf' : List ℕ} {m : ℕ} whe
         g l w.bytes,
       )
 
-  pub asks_refused : {r : Requested} {e : Fault} → Replied u s out r after → r.answer ≡ NotWritten e → plan_most ≤ length out
-      → Printed (spoken (Refused (number_of e.refusal))) buf m buf' → Replies u s buf m buf'
-  asks_refused {r} {e} a q room p = (spoken (Refused (number_of e.refusal)), unsent {u = u} room (answered_none (replied_as a q)), p)
+  pub asks_refused : {r : Requested} {e : Fault} → Replied u s out r after → r.answer ≡ Err e → plan_most ≤ length out
+      → Printed (refused_text (number_of e.refusal)) buf m buf' → Replies u s buf m buf'
+  asks_refused {r} {e} a q room p = (refused_text (number_of e.refusal), unsent {u = u} room (answered_none (replied_as a q)), p)
 
 -- ---- there is no second answer
 

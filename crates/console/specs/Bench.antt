@@ -15,9 +15,8 @@ use Rattle.unit.specs.Life.{Verdict, accepted, Outcome, rent, set}
 use Rattle.unit.specs.Life.{refused as denied}
 use Rattle.unit.specs.Request.{asked_of}
 use Rattle.unit.specs.Unit.{new_unit, tenancy_of}
-use Rattle.line.specs.declared.Word.TheVariants.{Refused}
 use Rattle.stream.specs.Frame.{sheet}
-use Rattle.line.specs.Line.{spoken, plan_line}
+use Rattle.line.specs.Line.{refused_text, plan_line}
 use Rattle.line.specs.Printed.{Printed}
 
 -- the longest input: unit and tenancy, and twice a length and a sheet
@@ -65,7 +64,7 @@ bench_input = do
 
 -- the refusal, or the plan
 unfoldable pub answer_line : ℕ → ℕ → Out Plan → List ℕ
-answer_line number tenancy (refused n) = spoken (Refused n.number)
+answer_line number tenancy (refused n) = refused_text n.number
 answer_line number tenancy (got p e) = plan_line number tenancy p
 
 -- the line of a unit's answer to a request
@@ -76,7 +75,7 @@ pub record Asks (u : Unit) (s line : List ℕ) : Type 0 where
 
 -- the line of an input: of its first refusal, or of the answer to its request
 unfoldable pub Line : Out Ready → List ℕ → Type 0
-Line (refused n) line = line ≡ spoken (Refused n.number)
+Line (refused n) line = line ≡ refused_text n.number
 Line (got r e) line = Asks r.unit r.request line
 
 -- the line stands at the start of the buffer, all else as it was; its length is answered

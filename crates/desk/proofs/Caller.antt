@@ -127,7 +127,7 @@ Tabled (got p e) = Unit
 Tabled (refused n) = Known n.number
 
 room_answers : (o : Out Plan) (disks short : List ℕ) → Answers o → Tabled (if_room o disks short)
-unfolding if_room Answers Tabled
+unfolding if_room Tabled
 room_answers (got p e) disks short h =
     pick_elim Tabled _ _ _ (λ _. pick_elim Tabled _ _ _ (λ _. tt) (λ _. (omega arith, omega arith))) (λ _. (omega arith, omega arith))
 room_answers (refused n) disks short h = h.0

@@ -1,6 +1,7 @@
 -- Laws of the plan reader.
 --     plan_packable     Q, R and m of an accepted sheet, and its short set
---     read_accepted, read_refused     the two ways in which it ends
+--     packs     what is packed has room in its bits
+--     plan_read, set_put, set_kept     what is answered, and what the two lists hold
 use mathlib.Core.Path.{◌≡◌, refl, sym, ap, ◌∙◌, subst}
 use mathlib.Core.Bool.{Bool}
 use mathlib.Core.List.{List, [], ◌∷◌, ◌++◌}
@@ -14,14 +15,13 @@ use Rattle.number.specs.Bytes.{Bytes}
 use Rattle.basics.specs.Limits.{blocks_most, time_most}
 use Rattle.basics.specs.Choice.{pick}
 use Rattle.basics.proofs.Tests.{by_cases}
+use Rattle.std.specs.Prelude.{Result, Ok, Err}
 use Rattle.field.specs.declared.Fault.{Fault}
-use Rattle.field.specs.Refusal.{note_of}
+use Rattle.field.proofs.Unique.{not_refused}
 use Rattle.field.specs.Put.{spell_all}
 use Rattle.field.specs.Sheet.{Note, note, Out, got, refused}
 use Rattle.basics.specs.Lists.{All, Rises}
 use Rattle.plan.specs.declared.Head.{Head}
-use Rattle.plan.specs.declared.Answer.{Answer}
-use Rattle.plan.specs.declared.Answer.TheVariants.{Accepted, Refused}
 use Rattle.plan.specs.Plan.{Plan, plan_sheet}
 use Rattle.plan.specs.Range.{InRange}
 use Rattle.plan.specs.Receive.{if_room, heads, disks_left, short_left, Received}
@@ -33,7 +33,7 @@ use Rattle.plan.proofs.RoundTrip.{sheet_exact}
 use Rattle.plan.proofs.Room.{room_disks, room_short, room_both, room_either}
 use Rattle.plan.proofs.Placed.{read_near}
 use Rattle.lent.specs.Numbers.{bytes_of, numbers, Room}
-use Rattle.lent.specs.Packed.{lengths, pack_refused, reader_answer, FitsBits}
+use Rattle.lent.specs.Packed.{reader_answer, FitsBits}
 use Rattle.desk.specs.Desk.{plan_if_room, set_left, PlanRead}
 use Rattle.lent.proofs.Numbers.{numbers_length}
 
@@ -93,13 +93,11 @@ room_same unit t s disks short set b r =
 -- what is handed out stands on the sheet
 room_got : (o : Out Plan) (disks short : List ℕ) (p : Plan) (e : ℕ) → if_room o disks short ≡ got p e → o ≡ got p e
 unfolding if_room
-room_got (refused n) disks short p e h = absurd (let z : ◌≡◌ {A = ℕ} 0 1 = cc in omega arith)
+room_got (refused n) disks short p e h = absurd (not_refused (sym h))
 room_got (got x n) disks short p e h =
     room_either x n disks short
-    (λ l. let v : refused (note 11 (length x.disks)) ≡ got p e = sym (room_disks x n disks short l) ∙ h in
-    absurd (let z : ◌≡◌ {A = ℕ} 0 1 = cc in omega arith))
-    (λ k l. let v : refused (note 11 (length x.short)) ≡ got p e = sym (room_short x n disks short k l) ∙ h in
-    absurd (let z : ◌≡◌ {A = ℕ} 0 1 = cc in omega arith))
+    (λ l. absurd (not_refused (sym h ∙ room_disks x n disks short l)))
+    (λ k l. absurd (not_refused (sym h ∙ room_short x n disks short k l)))
     (λ k l. sym (room_both x n disks short k l) ∙ h)
 
 pub plan_packable_room : (unit t : ℕ) (s disks set : List ℕ) (p : Plan) (e : ℕ) → Bytes s → plan_if_room unit t s disks set ≡ got p e
@@ -122,13 +120,11 @@ pub record Plans (unit t : ℕ) (s disks short : List ℕ) (h : Head) : Type 0 w
 plans_of : (unit t : ℕ) (s disks short : List ℕ) (h : Head) (n : ℕ) (o : Out Plan) → Bytes s → plan_sheet unit t s 0 ≡ o
     → got h n ≡ heads (if_room o disks short) → Plans unit t s disks short h
 unfolding if_room heads
-plans_of unit t s disks short h n (refused m) b q w = absurd (let o : ◌≡◌ {A = ℕ} 0 1 = cc in omega arith)
+plans_of unit t s disks short h n (refused m) b q w = absurd (not_refused w)
 plans_of unit t s disks short h n (got p e) b q w =
     room_either p e disks short
-    (λ l. let v : got h n ≡ refused (note 11 (length p.disks)) = w ∙ ap heads (room_disks p e disks short l) in
-    absurd (let o : ◌≡◌ {A = ℕ} 0 1 = cc in omega arith))
-    (λ k l. let v : got h n ≡ refused (note 11 (length p.short)) = w ∙ ap heads (room_short p e disks short k l) in
-    absurd (let o : ◌≡◌ {A = ℕ} 0 1 = cc in omega arith))
+    (λ l. absurd (not_refused (w ∙ ap heads (room_disks p e disks short l))))
+    (λ k l. absurd (not_refused (w ∙ ap heads (room_short p e disks short k l))))
     (λ k l.
     let x : if_room (got p e) disks short ≡ got p e = room_both p e disks short k l in
     let v : got h n ≡ got (record { blocks = length p.disks; time = p.time; size = length p.short }) e = w ∙ ap heads x in
@@ -145,8 +141,7 @@ plans_of unit t s disks short h n (got p e) b q w =
     })
 
 -- what is packed has room in its bits
-pub plans_small : {unit t : ℕ} {s disks short : List ℕ} {h : Head} → Plans unit t s disks short h → FitsBits (Accepted h)
-unfolding FitsBits
+pub plans_small : {unit t : ℕ} {s disks short : List ℕ} {h : Head} → Plans unit t s disks short h → FitsBits (Ok h)
 plans_small p = (omega (arith, p.blocks, p.range.blocks), omega (arith, p.time, p.range.time), omega (arith, p.size, p.range.size))
 
 -- a part of so many numbers
@@ -164,56 +159,52 @@ pairs_fit zeros ys set k p r l e =
 -- a refusal leaves the short set as it was
 unset : (o : Out Plan) (set : List ℕ) {n : Note} → refused n ≡ heads o → set ≡ set_left o set
 unfolding heads set_left
-unset (got p e) set h = absurd (let o : ◌≡◌ {A = ℕ} 0 1 = cc in omega arith)
+unset (got p e) set h = absurd (not_refused (sym h))
 unset (refused m) set h = refl
 
--- a refusal's place has room in its bits, whatever is lent
-pub near : (unit t : ℕ) (s : List ℕ) {disks short : List ℕ} {a : Answer} {disks' short' : List ℕ} {f : Fault} → Bytes s
-    → Received (plan_sheet unit t s 0) (length s) disks short a disks' short' → a ≡ Refused f → f.place < lengths
-near unit t s {disks} {short} {disks' = disks'} {short' = short'} b g e =
-    omega (
-      arith,
-      read_near unit t s (subst (λ (x : Answer). Received (plan_sheet unit t s 0) (length s) disks short x disks' short') e g) b,
-    )
-
-module _ {unit t : ℕ} {s disks short : List ℕ} {a : Answer} {disks' short' : List ℕ} (b : Bytes s)
+module _ (unit t : ℕ) (s : List ℕ) {disks short disks' short' : List ℕ} {a : Result Head Fault} (b : Bytes s)
     (g : Received (plan_sheet unit t s 0) (length s) disks short a disks' short') where
-  pub accepted : {h : Head} → a ≡ Accepted h → Plans unit t s disks short h
-  unfolding told_plan
+  pub accepted : {h : Head} → a ≡ Ok h → Plans unit t s disks short h
   accepted {h} e = plans_of unit t s disks short h (length s) (plan_sheet unit t s 0) b refl (ap (told_plan (length s)) (sym e) ∙ g.answer)
 
-  -- the two lists and the answer
-  pub read_accepted : (set blocks : List ℕ) {h : Head} {r : ℕ} {after : List ℕ} → a ≡ Accepted h → Room (length set / 2) (length short)
-      → take (length short) blocks ≡ short' → r ≡ reader_answer (told_plan (length s) (Accepted h))
-      → after ≡ over (spell_all (bytes_of 2) (take h.size blocks)) set → PlanRead unit t s disks set r disks' after
-  unfolding told_plan set_left short_left
-  read_accepted set blocks {h} {r} {after} e room held answer left =
-      let p : Plans unit t s disks short h = accepted e in
-      let same : if_room (plan_sheet unit t s 0) disks short ≡ plan_if_room unit t s disks set =
-      room_same unit t s disks short set b room in
-      let members : short' ≡ over p.plan.short short = g.members ∙ ap (λ (o : Out Plan). short_left o short) p.is in
-      let first : take h.size blocks ≡ p.plan.short =
-      sym (take-take h.size (length short) blocks (omega (arith, p.size, p.room)))
-      ∙ ap (take h.size) (held ∙ members)
-      ∙ over_front p.plan.short short h.size (sym p.size) in
-      record {
-        answer = answer ∙ ap reader_answer (ap (told_plan (length s)) (sym e) ∙ g.answer ∙ ap heads same);
-        blocks = g.blocks ∙ ap (λ (o : Out Plan). disks_left o disks) same;
-        members = left ∙ ap (λ (x : List ℕ). over (spell_all (bytes_of 2) x) set) first
-            ∙ ap (λ (o : Out Plan). set_left o set) (sym p.is ∙ same);
-      }
+  -- what is packed has room in its bits; so has a refusal's place, whatever is lent
+  pub packs : FitsBits a
+  packs = packs_of a refl
+    where
+      packs_of : (x : Result Head Fault) → a ≡ x → FitsBits x
+      packs_of (Ok h) e = plans_small (accepted e)
+      packs_of (Err f) e =
+          omega (
+            arith,
+            read_near unit t s
+                (subst (λ (y : Result Head Fault). Received (plan_sheet unit t s 0) (length s) disks short y disks' short') e g) b,
+          )
 
-  pub read_refused : (set : List ℕ) {e : Fault} {r : ℕ} → a ≡ Refused e → Room (length set / 2) (length short)
-      → r ≡ pack_refused (note_of e)
-      → PlanRead unit t s disks set r disks' set
-  unfolding told_plan reader_answer
-  read_refused set {e} {r} q room answer =
-      let same : if_room (plan_sheet unit t s 0) disks short ≡ plan_if_room unit t s disks set =
-      room_same unit t s disks short set b room in
-      let v : refused (note_of e) ≡ heads (plan_if_room unit t s disks set) = ap (told_plan (length s)) (sym q) ∙ g.answer
-      ∙ ap heads same in
-      record {
-        answer = answer ∙ ap reader_answer v;
-        blocks = g.blocks ∙ ap (λ (o : Out Plan). disks_left o disks) same;
-        members = unset (plan_if_room unit t s disks set) set v;
-      }
+  module _ (set : List ℕ) (room : Room (length set / 2) (length short)) where
+    same : if_room (plan_sheet unit t s 0) disks short ≡ plan_if_room unit t s disks set
+    same = room_same unit t s disks short set b room
+
+    -- the answer and the first list
+    pub plan_read : {r : ℕ} {set' : List ℕ} → r ≡ reader_answer (told_plan (length s) a)
+        → set' ≡ set_left (plan_if_room unit t s disks set) set → PlanRead unit t s disks set r disks' set'
+    plan_read answer left = record {
+      answer = answer ∙ ap reader_answer (g.answer ∙ ap heads same);
+      blocks = g.blocks ∙ ap (λ (o : Out Plan). disks_left o disks) same;
+      members = left;
+    }
+
+    -- the second list: the short set, or as it was
+    pub set_put : (blocks : List ℕ) {h : Head} → a ≡ Ok h → take (length short) blocks ≡ short'
+        → over (spell_all (bytes_of 2) (take h.size blocks)) set ≡ set_left (plan_if_room unit t s disks set) set
+    unfolding set_left short_left
+    set_put blocks {h} e held =
+        let p : Plans unit t s disks short h = accepted e in
+        let members : short' ≡ over p.plan.short short = g.members ∙ ap (λ (o : Out Plan). short_left o short) p.is in
+        let first : take h.size blocks ≡ p.plan.short =
+        sym (take-take h.size (length short) blocks (omega (arith, p.size, p.room)))
+        ∙ ap (take h.size) (held ∙ members)
+        ∙ over_front p.plan.short short h.size (sym p.size) in
+        ap (λ (x : List ℕ). over (spell_all (bytes_of 2) x) set) first ∙ ap (λ (o : Out Plan). set_left o set) (sym p.is ∙ same)
+
+    pub set_kept : {f : Fault} → a ≡ Err f → set ≡ set_left (plan_if_room unit t s disks set) set
+    set_kept e = unset (plan_if_room unit t s disks set) set (ap (told_plan (length s)) (sym e) ∙ g.answer ∙ ap heads same)

@@ -1,14 +1,13 @@
 -- The promises of the exported functions.
---     broken_rows, usable_rows     lists of costs, loads and delays: one is broken; all are whole, and not too long
+--     broken_rows    lists of costs, loads and delays: one is broken
 --     settings_draft_of_bytes, marked_draft_of_bytes, request_draft_of_bytes     the sheet of lists of bytes, or why there is none
 --     tenancy_with       the tenancy of a request whose list is whole, else 0
 --     Exported          a writer's answer, and the buffer afterwards
 --     plan_if_room         what a plan sheet says, for two lists of bytes
 --     set_left        the bytes of the short set afterwards
 --     PlanRead       the plan reader's answer, and the two lists afterwards
-use Rattle.std.specs.Prelude.{ℕ, Bool, ◌&&◌, ◌||◌, ◌≡◌, List}
+use Rattle.std.specs.Prelude.{ℕ, Bool, ◌||◌, ◌≡◌, List}
 use Rattle.basics.specs.Choice.{pick}
-use Rattle.basics.specs.Limits.{disks_most}
 use Rattle.field.specs.Put.{spell_all}
 use Rattle.field.specs.Send.{Draft, none, answer_to, left_by}
 use Rattle.field.specs.Sheet.{Out, got, refused, unplaced}
@@ -18,15 +17,12 @@ use Rattle.request.specs.Draft.{request_draft}
 use Rattle.plan.specs.Plan.{Plan, plan_sheet}
 use Rattle.plan.specs.Receive.{if_room, heads, disks_left}
 use Rattle.basics.specs.Buffer.{over}
-use Rattle.lent.specs.Numbers.{bytes_of, numbers, broken, usable}
+use Rattle.lent.specs.Numbers.{bytes_of, numbers, broken}
 use Rattle.lent.specs.Packed.{writer_answer, reader_answer}
 
--- costs, loads and delays as four-byte numbers, one list broken inside a number; all whole, and not too long
+-- costs, loads and delays as four-byte numbers, one list broken inside a number
 unfoldable pub broken_rows : List ℕ → List ℕ → List ℕ → Bool
 broken_rows costs loads delays = broken 4 costs || (broken 4 loads || broken 4 delays)
-
-unfoldable pub usable_rows : List ℕ → List ℕ → List ℕ → Bool
-usable_rows costs loads delays = usable 4 disks_most costs && (usable 4 disks_most loads && usable 4 disks_most delays)
 
 -- the settings sheet of four-byte numbers; a broken list is 6 before the rest
 unfoldable pub settings_draft_of_bytes : Rule → ℕ → ℕ → List ℕ → List ℕ → List ℕ → Draft

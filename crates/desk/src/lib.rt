@@ -1,59 +1,54 @@
 // The desk end: lists lent as bytes, one call, one packed answer. `desk_c` exports these functions to C.
 #![tactic(auto)]
 
-ghost use Rattle.std.specs.Prelude.{◌≡◌, ◌/◌, ◌≤◌, length};
+ghost use Rattle.std.specs.Prelude.{◌≡◌, ◌≤◌, true, false, MatchResult, take};
 ghost use Rattle.basics.specs.Limits.{disks_most};
+ghost use Rattle.field.specs.declared.Refusal.TheVariants.{OutOfRange};
+ghost use Rattle.field.specs.Refusal.{fault_at};
 ghost use Rattle.field.specs.Send.{Sent};
 ghost use Rattle.model.specs.declared.Rule.TheVariants.{Sum, Larger};
-ghost use Rattle.settings.specs.Draft.{settings_draft, marked_draft};
-ghost use Rattle.lent.specs.Numbers.{numbers};
-ghost use Rattle.desk.specs.Desk.{usable_rows, settings_draft_of_bytes, marked_draft_of_bytes};
+ghost use Rattle.lent.specs.Numbers.{numbers, usable};
+ghost use Rattle.desk.specs.Desk.{settings_draft_of_bytes, marked_draft_of_bytes};
 ghost use Rattle.desk.specs.Desk.{tenancy_with, request_draft_of_bytes, Exported, PlanRead};
 
 use basics::{BLOCKS, DISKS};
-use field::{Fault, Refusal, Verdict, Written};
+use field::{Fault, Refusal};
 use model::Rule;
-use plan::Answer;
 
-// Whether lists of costs, loads and delays are whole, and none is too long.
-fn rows_usable(costs: &[u8], loads: &[u8], delays: &[u8]) -> bool
-    ensures { result ≡ usable_rows costs.now loads.now delays.now }
-{
-    if !lent::usable(costs, 4, DISKS) {
-        return false;
-    }
-    if !lent::usable(loads, 4, DISKS) {
-        return false;
-    }
-    lent::usable(delays, 4, DISKS)
+// The numbers of a list of costs, loads, delays or marks: so many of 64 places.
+#[derive(Clone, Copy)]
+struct Numbers {
+    places: [u32; DISKS],
+    count: usize,
+    ghost within: { count ≤ disks_most },
 }
 
-// Writes the settings sheet of lists that are whole and not too long.
-fn send_settings(
-    rule: Rule,
-    unit: u32,
-    tenancy: u32,
-    costs: &[u8],
-    loads: &[u8],
-    delays: &[u8],
-    out: &mut [u8],
-) -> Written
-    requires { (length costs.now / 4 ≤ disks_most) × (length loads.now / 4 ≤ disks_most) × (length delays.now / 4 ≤ disks_most) }
-    ensures { Sent
-        (settings_draft rule unit tenancy (numbers 4 costs.now) (numbers 4 loads.now)
-        (numbers 4 delays.now))
-        out.old result out.new }
-{
-    let c = lent::fours(costs);
-    let l = lent::fours(loads);
-    let d = lent::fours(delays);
-    let disks = costs.len() / 4;
-    let k = loads.len() / 4;
-    let n = delays.len() / 4;
-    settings::write(rule, unit, tenancy, &c[..disks], &l[..k], &d[..n], out)
+impl Numbers {
+    // Those of four bytes each; 6 where the list is broken or too long.
+    fn of(bytes: &[u8]) -> Result<Numbers, Fault>
+        ensures { MatchResult result
+            (λ n. (usable 4 disks_most bytes.now ≡ true) × (take n.count n.places ≡ numbers 4 bytes.now))
+            (λ f. (usable 4 disks_most bytes.now ≡ false) × (f ≡ fault_at OutOfRange 0)) }
+    {
+        if !lent::usable(bytes, 4, DISKS) {
+            return Err(Refusal::OutOfRange.at(0));
+        }
+        Ok(Numbers {
+            places: lent::fours(bytes),
+            count: bytes.len() / 4,
+        })
+    }
+
+    // Themselves.
+    fn list(&self) -> &[u32]
+        ensures { result.now ≡ take self.now.count self.now.places }
+    {
+        &self.places[..self.count]
+    }
 }
 
-// Writes a settings sheet of a start rule: four bytes for each cost, load and delay.
+// Writes a settings sheet of a start rule: four bytes for each cost, load and delay. The lists come one by one, as from C
+// (`rp_write_settings`).
 fn write_settings(
     rule: Rule,
     unit: u32,
@@ -62,17 +57,46 @@ fn write_settings(
     loads: &[u8],
     delays: &[u8],
     out: &mut [u8],
-) -> u64
-    ensures { Exported (settings_draft_of_bytes rule unit tenancy costs.now loads.now delays.now)
+) -> Result<usize, Fault>
+    ensures { Sent (settings_draft_of_bytes rule unit tenancy costs.now loads.now delays.now)
         out.old result out.new }
 {
-    if !rows_usable(costs, loads, delays) {
-        return lent::refuse(Fault {
-            refusal: Refusal::OutOfRange,
-            place: 0,
-        });
-    }
-    lent::pack_written(send_settings(rule, unit, tenancy, costs, loads, delays, out))
+    let c = Numbers::of(costs)?;
+    let l = Numbers::of(loads)?;
+    let d = Numbers::of(delays)?;
+    settings::write(rule, unit, tenancy, c.list(), l.list(), d.list(), out)
+}
+
+// Writes a settings sheet with marks: four bytes for each cost, load, delay and mark. The rule is a number, as C hands it on. With
+// `write_settings` it shares `Numbers::of`; the rest is the call of another writer.
+fn write_marked(
+    unit: u32,
+    tenancy: u32,
+    rule: u32,
+    costs: &[u8],
+    loads: &[u8],
+    delays: &[u8],
+    marks: &[u8],
+    out: &mut [u8],
+) -> Result<usize, Fault>
+    ensures { Sent
+        (marked_draft_of_bytes unit tenancy rule costs.now loads.now delays.now marks.now)
+        out.old result out.new }
+{
+    let c = Numbers::of(costs)?;
+    let l = Numbers::of(loads)?;
+    let d = Numbers::of(delays)?;
+    let m = Numbers::of(marks)?;
+    settings::write_marked(
+        unit,
+        tenancy,
+        rule,
+        c.list(),
+        l.list(),
+        d.list(),
+        m.list(),
+        out,
+    )
 }
 
 // Writes a settings sheet of kind 1: every disk starts at the sum of its delay and load.
@@ -87,10 +111,11 @@ pub fn rp_write_settings(
     ensures { Exported (settings_draft_of_bytes Sum unit tenancy costs.now loads.now delays.now)
         out.old result out.new }
 {
-    write_settings(Rule::Sum, unit, tenancy, costs, loads, delays, out)
+    lent::pack_written(write_settings(Rule::Sum, unit, tenancy, costs, loads, delays, out))
 }
 
-// Writes a settings sheet of kind 5: every disk starts at the larger of its delay and load.
+// Writes a settings sheet of kind 5: every disk starts at the larger of its delay and load. This and `rp_write_settings` are two names
+// that C links.
 pub fn rp_write_settings_overlap(
     unit: u32,
     tenancy: u32,
@@ -102,45 +127,7 @@ pub fn rp_write_settings_overlap(
     ensures { Exported (settings_draft_of_bytes Larger unit tenancy costs.now loads.now delays.now)
         out.old result out.new }
 {
-    write_settings(Rule::Larger, unit, tenancy, costs, loads, delays, out)
-}
-
-// Writes the settings sheet with marks of lists that are whole and not too long.
-fn send_marked(
-    unit: u32,
-    tenancy: u32,
-    rule: u32,
-    costs: &[u8],
-    loads: &[u8],
-    delays: &[u8],
-    marks: &[u8],
-    out: &mut [u8],
-) -> Written
-    requires { (length costs.now / 4 ≤ disks_most) × (length loads.now / 4 ≤ disks_most) × (length delays.now / 4 ≤ disks_most)
-        × (length marks.now / 4 ≤ disks_most) }
-    ensures { Sent
-        (marked_draft unit tenancy rule (numbers 4 costs.now) (numbers 4 loads.now) (numbers 4 delays.now)
-        (numbers 4 marks.now))
-        out.old result out.new }
-{
-    let c = lent::fours(costs);
-    let l = lent::fours(loads);
-    let d = lent::fours(delays);
-    let m = lent::fours(marks);
-    let disks = costs.len() / 4;
-    let k = loads.len() / 4;
-    let n = delays.len() / 4;
-    let e = marks.len() / 4;
-    settings::write_marked(
-        unit,
-        tenancy,
-        rule,
-        &c[..disks],
-        &l[..k],
-        &d[..n],
-        &m[..e],
-        out,
-    )
+    lent::pack_written(write_settings(Rule::Larger, unit, tenancy, costs, loads, delays, out))
 }
 
 // Writes a settings sheet of kind 6: the start rule, 1 for the sum of delay and load and 2 for the larger; four bytes for each cost, load,
@@ -159,29 +146,33 @@ pub fn rp_write_settings_marked(
         (marked_draft_of_bytes unit tenancy rule costs.now loads.now delays.now marks.now)
         out.old result out.new }
 {
-    if !rows_usable(costs, loads, delays) {
-        return lent::refuse(Fault {
-            refusal: Refusal::OutOfRange,
-            place: 0,
-        });
-    }
-    if !lent::usable(marks, 4, DISKS) {
-        return lent::refuse(Fault {
-            refusal: Refusal::OutOfRange,
-            place: 0,
-        });
-    }
-    lent::pack_written(send_marked(unit, tenancy, rule, costs, loads, delays, marks, out))
+    lent::pack_written(write_marked(unit, tenancy, rule, costs, loads, delays, marks, out))
 }
 
-// The tenancy that a writer takes: 0, with which it refuses, where a list ends inside a number.
+// The tenancy that the writer takes: 0, which `judge` refuses, where a list ends inside a number (the definition's `tenancy_with`).
 fn tenancy_of(tenancy: u32, copies: &[u8]) -> u32
     ensures { result ≡ tenancy_with tenancy copies.now }
 {
-    if 0 < copies.len() % 8 {
-        return 0;
-    }
-    tenancy
+    if 0 < copies.len() % 8 { 0 } else { tenancy }
+}
+
+// Writes a read request. Its other fields are judged before its list is read.
+fn write_request(
+    kind: u32,
+    unit: u32,
+    tenancy: u32,
+    age: u32,
+    disks: u32,
+    copies: &[u8],
+    out: &mut [u8],
+) -> Result<usize, Fault>
+    ensures { Sent (request_draft_of_bytes kind unit tenancy age disks copies.now) out.old result
+        out.new }
+{
+    let n = copies.len() / 8;
+    request::judge(kind, tenancy_of(tenancy, copies), age, disks, n)?;
+    let blocks = lent::eights(copies);
+    request::write(kind, unit, tenancy, age, disks, &blocks[..n], out)
 }
 
 // Writes a read request of kind 2 or 4, with the age of the settings, for a unit of so many disks: eight bytes for each block, bit d
@@ -198,14 +189,7 @@ pub fn rp_write_request(
     ensures { Exported (request_draft_of_bytes kind unit tenancy age disks copies.now) out.old result
         out.new }
 {
-    let n = copies.len() / 8;
-    match request::judge(kind, tenancy_of(tenancy, copies), age, disks, n) {
-        Verdict::Accepted => {
-            let blocks = lent::eights(copies);
-            lent::pack_written(request::write(kind, unit, tenancy, age, disks, &blocks[..n], out))
-        }
-        Verdict::Refused(e) => lent::refuse(e),
-    }
+    lent::pack_written(write_request(kind, unit, tenancy, age, disks, copies, out))
 }
 
 // Reads a plan sheet: a byte for each block's disk, two for each block of the short set.
@@ -221,11 +205,9 @@ pub fn rp_read_plan(
 {
     let mut blocks = [0u16; BLOCKS];
     let k = lent::room(short);
-    match plan::read(sheet, unit, tenancy, disks, &mut blocks[..k]) {
-        Answer::Accepted(h) => {
-            lent::put_pairs(&blocks, h.size, short);
-            lent::pack_plan(Answer::Accepted(h))
-        }
-        Answer::Refused(e) => lent::refuse(e),
+    let read = plan::read(sheet, unit, tenancy, disks, &mut blocks[..k]);
+    if let Ok(head) = read {
+        lent::put_pairs(&blocks, head.size, short);
     }
+    lent::pack_plan(read)
 }

@@ -15,6 +15,8 @@ use lib.Dec.{ltb}
 use lib.ListN.{get_or, length, take, replicate, length-replicate}
 use borrow.Author.Tests.{ltb-true, ltb-false}
 use Rattle.basics.specs.Limits.{disks_most, blocks_most, places_most, nodes_most}
+use Rattle.places.specs.declared.Board.{Board}
+use Rattle.places.specs.Boards.{Zeros}
 use Rattle.mask.specs.Has.{has}
 use Rattle.model.specs.Assignment.{Valid, Within}
 use Rattle.model.specs.Case.{Case, Priced, Schedule, response, HasTime, capacity_at}
@@ -162,10 +164,9 @@ least_of {copies} {costs} {starts} {t = t} tb l k =
     record { least = h; most = k.time }
 
 -- what the slices spell, with nothing in the other lists
-pub spelling : {copies costs starts : List ℕ} (masks : List ℕ) → Spellable copies costs starts → Loaded copies masks
-    → Fresh (length costs) (length copies) masks costs starts (replicate disks_most 0) (replicate blocks_most 0) (replicate places_most 0)
-    (replicate nodes_most 0) (replicate nodes_most 0) (replicate places_most 0)
-spelling masks r l =
+pub spelling : {copies costs starts : List ℕ} (masks : List ℕ) {s : Board} → Spellable copies costs starts → Loaded copies masks → Zeros s
+    → Fresh (length costs) (length copies) masks costs starts (replicate disks_most 0) s.seats s.counts s.nodes.next s.nodes.prev s.out
+spelling masks r l z =
     record {
       table = r.table;
       copies = record {
@@ -176,23 +177,24 @@ spelling masks r l =
       empty = record {
         disks = r.table.few;
         blocks = r.blocks;
-        long_seats = length-replicate {A = ℕ} blocks_most 0;
-        long_counts = length-replicate {A = ℕ} places_most 0;
-        long_next = length-replicate {A = ℕ} nodes_most 0;
-        long_prev = length-replicate {A = ℕ} nodes_most 0;
-        bounded_next = λ x. omega (arith, replicate_at {A = ℕ} 0 nodes_most x);
-        bounded_prev = λ x. omega (arith, replicate_at {A = ℕ} 0 nodes_most x);
-        none = λ d _. replicate_at {A = ℕ} 0 places_most d;
+        long_seats = rw z.seats (length-replicate {A = ℕ} blocks_most 0);
+        long_counts = rw z.counts (length-replicate {A = ℕ} places_most 0);
+        long_next = rw z.next (length-replicate {A = ℕ} nodes_most 0);
+        long_prev = rw z.prev (length-replicate {A = ℕ} nodes_most 0);
+        bounded_next = λ x. rw z.next (omega (arith, replicate_at {A = ℕ} 0 nodes_most x));
+        bounded_prev = λ x. rw z.prev (omega (arith, replicate_at {A = ℕ} 0 nodes_most x));
+        none = λ d _. rw z.counts (replicate_at {A = ℕ} 0 places_most d);
       };
-      wide = length-replicate {A = ℕ} places_most 0;
+      wide = rw z.out (length-replicate {A = ℕ} places_most 0);
     }
 
-pub solving : {copies costs starts disks short : List ℕ} (masks : List ℕ) → Ready copies costs starts disks short → Loaded copies masks
-    → Solving (length costs) (length copies) masks costs starts (replicate disks_most 0) (replicate blocks_most 0) (replicate places_most 0)
-    (replicate nodes_most 0) (replicate nodes_most 0) (replicate places_most 0) disks short
-solving masks r l =
+pub solving : {copies costs starts disks short : List ℕ} (masks : List ℕ) {s : Board} → Ready copies costs starts disks short
+    → Loaded copies masks → Zeros s
+    → Solving (length costs) (length copies) masks costs starts (replicate disks_most 0) s.seats s.counts s.nodes.next s.nodes.prev s.out
+    disks short
+solving masks r l z =
     record {
-      fresh = spelling masks r.spellable l;
+      fresh = spelling masks r.spellable l z;
       long = l.long;
       disks_room = r.disks_room;
       short_room = r.short_room;

@@ -5,11 +5,12 @@
 use Prim.Native.Nat.{ℕ, ◌+◌, ◌-◌, ◌≤◌, ◌<◌}
 use mathlib.Core.Path.{◌≡◌, refl, sym, ap, ◌∙◌}
 use mathlib.Core.Bool.{Bool, true, false, ◌||◌}
-use mathlib.Core.List.{List}
+use mathlib.Core.List.{List, ◌++◌}
 use native.Mathlib.Omega.{arith}
 use native.Mathlib.Numerals.{add-one}
 use lib.Dec.{eqb, ltb}
-use lib.ListN.{get_or, set, take, length, length-set, get_or-eq_default}
+use lib.ListN.{get_or, set, take, drop, length, length-set, length-append, length-drop, get_or-eq_default}
+use Rattle.std.proofs.lemmas.List.{get_or_append_left, get_or-append_right, get_or-drop}
 use lib.Seq.{get_or-set_same, get_or-set_other, get_or-take, length-take-le}
 use borrow.Author.Count.{below_more}
 use borrow.Author.Tests.{ltb-true, ltb-false, eqb-true, eqb-false, eq-eqb, ne_eqb}
@@ -28,20 +29,18 @@ pub record Copied (b : ℕ) (from to₀ to : List ℕ) : Type 0 where
   pub same : (i : ℕ) → i < b → get_or to i 0 ≡ get_or from i 0
   pub rest : (i : ℕ) → b ≤ i → get_or to i 0 ≡ get_or to₀ i 0
 
-pub copied_start : (from to₀ : List ℕ) → Copied 0 from to₀ to₀
-copied_start from to₀ = record { long = refl; same = λ i l. absurd (omega (arith, l)); rest = λ i l. refl }
+-- copied at the start
+pub copied_front : (from to₀ : List ℕ) {q : ℕ} → length from ≡ q → q ≤ length to₀ → Copied q from to₀ (from ++ drop q to₀)
+copied_front from to₀ {q} e h =
+    record {
+      long = simp (length-append, length-drop) (omega arith);
+      same = λ i l. get_or_append_left from (drop q to₀) 0 i (omega arith);
+      rest = λ i l.
+          get_or-append_right from (drop q to₀) q i 0 e l ∙ get_or-drop q to₀ (i - q) 0
+          ∙ ap (λ (k : ℕ). get_or to₀ k 0) {x = q + (i - q)} {y = i} (omega arith);
+    }
 
 module _ {b : ℕ} {from to₀ to : List ℕ} (s : Copied b from to₀ to) where
-  pub copied_more : b < length to → Copied (b + 1) from to₀ (set to b (get_or from b 0))
-  copied_more h =
-      record {
-        long = length-set to b (get_or from b 0) ∙ s.long;
-        same = below_more (λ i. get_or (set to b (get_or from b 0)) i 0 ≡ get_or from i 0) b
-            (λ i l. get_or-set_other to b i (get_or from b 0) 0 (omega arith) ∙ s.same i l)
-            (get_or-set_same to b (get_or from b 0) 0 h);
-        rest = λ i l. get_or-set_other to b i (get_or from b 0) 0 (omega arith) ∙ s.rest i (omega arith);
-      }
-
   pub copied_loaded : length from ≤ b → length to₀ ≡ blocks_most → ((i : ℕ) → get_or to₀ i 0 ≡ 0) → Loaded from to
   copied_loaded h l z =
       record {
@@ -51,13 +50,9 @@ module _ {b : ℕ} {from to₀ to : List ℕ} (s : Copied b from to₀ to) where
             (λ t. let m = ltb-false i b t in s.rest i m ∙ z i ∙ sym (get_or-eq_default from 0 (omega arith)));
       }
 
-  pub copied_stored : {q : ℕ} → b ≡ q → Stored q from to₀ to
-  copied_stored e =
-      record {
-        same = λ i l. s.same i (omega (arith, e, l));
-        rest = λ i l. s.rest i (omega (arith, e, l));
-        long = s.long;
-      }
+-- the first of a longer list
+pub copied_stored : {q : ℕ} (seats : List ℕ) {disks disks' : List ℕ} → Copied q (take q seats) disks disks' → Stored q seats disks disks'
+copied_stored {q} seats s = record { same = λ i l. s.same i l ∙ get_or-take q seats i 0 l; rest = s.rest; long = s.long }
 
 -- ---- the listed blocks
 

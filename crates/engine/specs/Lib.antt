@@ -1,3 +1,4 @@
 pub mod Spelled
 pub mod Planned
 pub mod Parts
+pub mod Boards

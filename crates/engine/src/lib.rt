@@ -3,16 +3,20 @@
 
 ghost use Rattle.std.specs.Prelude.{◌≡◌, ℕ, ◌<◌, ◌≤◌, length, get_or};
 ghost use Rattle.basics.specs.Limits.{blocks_most};
-ghost use Rattle.timing.specs.Times.{Least};
-ghost use Rattle.order.specs.Ordered.{Scheduled};
+ghost use Rattle.timing.specs.Boards.{Least};
+ghost use Rattle.order.specs.Boards.{Scheduled};
 ghost use Rattle.engine.specs.Spelled.{Spellable, Loaded, Ready};
 ghost use Rattle.engine.specs.Planned.{LeastOf, Planned};
-ghost use Rattle.engine.specs.Parts.{Stored, Listed, Fresh, Naming, Named, Sorted, Solving, Solved};
+ghost use Rattle.engine.specs.Parts.{Stored, Listed, Sorted};
+ghost use Rattle.engine.specs.Boards.{Fresh, Naming, Named, Solving, Solved};
 
-use basics::{BLOCKS, Capacities, Counts, DISKS, Links, Masks, NODES, PLACES, Reaches, Seats};
+use basics::{BLOCKS, Capacities, DISKS, Masks, Seats};
+use capacity::Rates;
+use places::Board;
+use timing::Demand;
 
 // The least time R, and how many blocks the short set has.
-#[derive(Clone, Copy)]
+#[derive(Clone, Copy, Debug, PartialEq, Eq)]
 pub struct Found {
     pub time: u32,
     pub size: usize,
@@ -23,91 +27,57 @@ pub fn load(copies: &[u64], masks: &mut Masks)
     requires { (length copies.now ≤ blocks_most) × (length masks.old ≡ blocks_most) × ((b : ℕ) → get_or masks.old b 0 ≡ 0) }
     ensures { Loaded copies.now masks.new }
 {
-    let mut b = 0;
-    while b < copies.len() {
-        masks[b] = copies[b];
-        b += 1;
-    }
+    masks[..copies.len()].copy_from_slice(copies);
 }
 
 // The places of all blocks, in the lent buffer.
+// q beside an array: the array's length is fixed, q counts.
 fn store(q: usize, seats: &Seats, disks: &mut [u8])
     requires { (q ≤ blocks_most) × (q ≤ length disks.old) }
     ensures { Stored q seats.now disks.old disks.new }
 {
-    let mut b = 0;
-    while b < q {
-        disks[b] = seats[b];
-        b += 1;
-    }
+    disks[..q].copy_from_slice(&seats[..q]);
 }
 
 // The blocks whose copies are all in x, rising, in the lent buffer.
+// q beside an array: the array's length is fixed, q counts. size counts what was put: no index of the loop.
 fn list_among(q: usize, masks: &Masks, x: u64, short: &mut [u16]) -> usize
     requires { (q ≤ blocks_most) × (q ≤ length short.old) }
     ensures { Listed q masks.now x short.old short.new result }
 {
     let mut size: usize = 0;
-    let mut b = 0;
-    while b < q {
-        if mask::without(masks[b], x) == 0 {
+    for b in 0..q {
+        if timing::all_in(masks[b], x) {
             short[size] = b as u16;
             size += 1;
         }
-        b += 1;
     }
     size
 }
 
 // The least time, with a schedule in that time.
-fn schedule(
-    n: usize,
-    q: usize,
-    costs: &[u32],
-    starts: &[u32],
-    masks: &Masks,
-    caps: &mut Capacities,
-    seats: &mut Seats,
-    counts: &mut Counts,
-    next: &mut Links,
-    prev: &mut Links,
-    out: &mut Reaches,
-) -> u32
-    requires { Fresh n q masks.now costs.now starts.now caps.old seats.old counts.old next.old prev.old out.old }
-    ensures { Least n q masks.now costs.now starts.now caps.new seats.new
-        counts.new next.new prev.new out.new result }
+fn schedule(demand: Demand, masks: &Masks, caps: &mut Capacities, board: &mut Board) -> u32
+    requires { Fresh demand masks.now caps.old board.old }
+    ensures { Least demand.entry masks.now caps.new board.new result }
 {
-    places::clear_all(n, q, seats, counts, next, prev);
-    timing::least(
-        n, q, costs, starts, masks, caps, seats, counts, next, prev, out,
-    )
+    board.clear_all(demand.n, demand.q);
+    timing::least(demand, masks, caps, board)
 }
 
 // The short set just before time t, in the lent buffer, from a schedule in time t; another one may be left.
 fn name_short(
-    n: usize,
-    q: usize,
-    costs: &[u32],
-    starts: &[u32],
+    demand: Demand,
     t: u32,
     masks: &Masks,
     caps: &mut Capacities,
-    seats: &mut Seats,
-    counts: &mut Counts,
-    next: &mut Links,
-    prev: &mut Links,
-    out: &mut Reaches,
+    board: &mut Board,
     short: &mut [u16],
 ) -> usize
-    requires { Naming n q masks.now costs.now starts.now t caps.old seats.old counts.old next.old prev.old out.old
-        short.old }
-    ensures { Named n q masks.now costs.now starts.now t caps.new seats.new
-        counts.new next.new prev.new out.new short.old short.new result }
+    requires { Naming demand masks.now t caps.old board.old short.old }
+    ensures { Named demand.entry masks.now t caps.new board.new short.old short.new result }
 {
-    let x = timing::short_disks(
-        n, q, costs, starts, t, masks, caps, seats, counts, next, prev, out,
-    );
-    list_among(q, masks, x, short)
+    let x = timing::short_disks(demand, t, masks, caps, board);
+    list_among(demand.q, masks, x, short)
 }
 
 // The first schedule, in the lent buffer; masks and schedule are used up.
@@ -116,81 +86,51 @@ fn sort_out(
     q: usize,
     masks: &mut Masks,
     caps: &Capacities,
-    seats: &mut Seats,
-    counts: &mut Counts,
-    next: &mut Links,
-    prev: &mut Links,
-    out: &mut Reaches,
+    board: &mut Board,
     disks: &mut [u8],
 )
-    requires { (Scheduled n q masks.old caps.now seats.old counts.old next.old prev.old out.old)
-        × (q ≤ length disks.old) }
+    requires { (Scheduled n q masks.old caps.now board.old) × (q ≤ length disks.old) }
     ensures { Sorted n q masks.old caps.now disks.old disks.new }
 {
-    order::first(n, q, masks, caps, seats, counts, next, prev, out);
-    store(q, seats, disks);
+    order::first(n, q, masks, caps, board);
+    store(q, &board.seats, disks);
 }
 
-// The plan of the case that masks, costs and starts spell; all other arrays are used up.
+// The plan of the case that masks and demand spell; all other arrays are used up.
 fn solve(
-    n: usize,
-    q: usize,
-    costs: &[u32],
-    starts: &[u32],
+    demand: Demand,
     masks: &mut Masks,
     caps: &mut Capacities,
-    seats: &mut Seats,
-    counts: &mut Counts,
-    next: &mut Links,
-    prev: &mut Links,
-    out: &mut Reaches,
+    board: &mut Board,
     disks: &mut [u8],
     short: &mut [u16],
 ) -> Found
-    requires { Solving n q masks.old costs.now starts.now caps.old seats.old counts.old next.old prev.old out.old
-        disks.old short.old }
-    ensures { Solved q masks.old costs.now starts.now disks.old short.old
-        disks.new short.new result }
+    requires { Solving demand masks.old caps.old board.old disks.old short.old }
+    ensures { Solved demand.entry masks.old disks.old short.old disks.new short.new result }
 {
-    let time = schedule(
-        n, q, costs, starts, masks, caps, seats, counts, next, prev, out,
-    );
-    let size = name_short(
-        n, q, costs, starts, time, masks, caps, seats, counts, next, prev, out, short,
-    );
-    sort_out(n, q, masks, caps, seats, counts, next, prev, out, disks);
+    let time = schedule(demand, masks, caps, board);
+    let size = name_short(demand, time, masks, caps, board, short);
+    sort_out(demand.n, demand.q, masks, caps, board, disks);
     Found { time, size }
 }
 
-// The least time of the case that the slices spell.
+// The least time of the case that the slices spell: copies, costs and starts lent one by one, as document 01 has them.
 pub fn least(copies: &[u64], costs: &[u32], starts: &[u32]) -> u32
     requires { Spellable copies.now costs.now starts.now }
     ensures { LeastOf copies.now costs.now starts.now result }
 {
+    let demand = Demand {
+        n: costs.len(),
+        q: copies.len(),
+        rates: Rates { costs, starts },
+    };
     let mut masks = [0u64; BLOCKS];
     load(copies, &mut masks);
-    let mut caps = [0u32; DISKS];
-    let mut seats = [0u8; BLOCKS];
-    let mut counts = [0u32; PLACES];
-    let mut next = [0u16; NODES];
-    let mut prev = [0u16; NODES];
-    let mut out = [0u64; PLACES];
-    schedule(
-        costs.len(),
-        copies.len(),
-        costs,
-        starts,
-        &masks,
-        &mut caps,
-        &mut seats,
-        &mut counts,
-        &mut next,
-        &mut prev,
-        &mut out,
-    )
+    schedule(demand, &masks, &mut [0u32; DISKS], &mut Board::new())
 }
 
 // The plan of the case that the slices spell: disks[b] is the disk of block b, short[..size] the short set, time the least time.
+// Costs and starts one by one, as document 01 lends them.
 pub fn plan(
     copies: &[u64],
     costs: &[u32],
@@ -202,26 +142,18 @@ pub fn plan(
     ensures { Planned copies.now costs.now starts.now disks.old short.old
         disks.new short.new result }
 {
+    let demand = Demand {
+        n: costs.len(),
+        q: copies.len(),
+        rates: Rates { costs, starts },
+    };
     let mut masks = [0u64; BLOCKS];
     load(copies, &mut masks);
-    let mut caps = [0u32; DISKS];
-    let mut seats = [0u8; BLOCKS];
-    let mut counts = [0u32; PLACES];
-    let mut next = [0u16; NODES];
-    let mut prev = [0u16; NODES];
-    let mut out = [0u64; PLACES];
     solve(
-        costs.len(),
-        copies.len(),
-        costs,
-        starts,
+        demand,
         &mut masks,
-        &mut caps,
-        &mut seats,
-        &mut counts,
-        &mut next,
-        &mut prev,
-        &mut out,
+        &mut [0u32; DISKS],
+        &mut Board::new(),
         disks,
         short,
     )

@@ -2,6 +2,7 @@ pub mod Sheet
 pub mod Values
 pub mod Readers
 pub mod Puts
+pub mod Pens
 pub mod Spell
 pub mod Read
 pub mod Spelt

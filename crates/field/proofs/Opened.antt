@@ -3,11 +3,11 @@
 --     opening_kind     its kind is one that the call takes
 --     reads_addressed, reads_opening     reading what was written
 --     addressed_spelt, opening_spelt, opening_one     the bytes of what was read; where a call takes one kind
---     opening_length, opening_put        how many they are; writing them
+--     opening_length     how many they are
 use mathlib.Core.Path.{◌≡◌, subst}
 use mathlib.Core.Bool.{true}
 use mathlib.Core.List.{List, [], ◌∷◌, ◌++◌, append-nil}
-use Prim.Native.Nat.{ℕ, ◌+◌, ◌^◌, ◌≤◌, ◌<◌}
+use Prim.Native.Nat.{ℕ, ◌+◌, ◌^◌, ◌<◌}
 use native.Mathlib.Omega.{arith}
 use lib.ListN.{length, length-append}
 use Rattle.basics.specs.Lists.{listed}
@@ -16,10 +16,9 @@ use Rattle.number.specs.Bytes.{Bytes}
 use Rattle.number.specs.Encode.{encode, width_of}
 use Rattle.field.specs.Sheet.{got, ◌>>◌, pure}
 use Rattle.field.specs.Field.{exactly, tenancy, kind, addressed, opening}
-use Rattle.field.specs.Put.{opening_bytes, PutOne, Laid}
+use Rattle.field.specs.Put.{opening_bytes}
 use Rattle.field.proofs.Sheet.{bind_got, after_got, pure_got}
 use Rattle.field.proofs.Values.{tenancy_within, kind_within}
-use Rattle.field.proofs.Puts.{put_three}
 use Rattle.field.proofs.Read.{Reads, reads_bind, reads_then, reads_pure, reads_between, reads_kind}
 use Rattle.field.proofs.Spelt.{Spelt, spelt_join, between_spelt, kind_spelt}
 
@@ -96,8 +95,3 @@ module _ (kind unit t : ℕ) where
   pub opening_length : length (opening_bytes kind unit t) ≡ width_of kind + width_of unit + width_of t
   unfolding opening_bytes width_of
   opening_length = omega (arith, length-append (encode kind) (encode unit ++ encode t), length-append (encode unit) (encode t))
-
-  pub opening_put : {out x y z : List ℕ} {p q next : ℕ} → PutOne kind out 0 p x → PutOne unit x p q y → PutOne t y q next z
-      → length (opening_bytes kind unit t) ≤ length out → Laid out 0 (opening_bytes kind unit t) z next
-  unfolding opening_bytes
-  opening_put f g h l = put_three f g h (omega arith)

@@ -1,5 +1,5 @@
 -- Laws of the readers of a field: their answer in each case.
---     told_got, told_refused          what an answer told
+--     refused_as                      what a refusal at a place is told as
 --     number_past, number_of          any number
 --     tenancy_none, tenancy_due       the tenancy that is due
 --     between_got, between_above, between_under, between_stops     a bounded one
@@ -19,21 +19,14 @@ use Rattle.basics.proofs.Choice.{pick_true, pick_false}
 use Rattle.number.specs.Decode.{decode}
 use Rattle.number.proofs.Decode.{decode_none}
 use Rattle.field.specs.Sheet.{Note, note, Out, got, refused, pure}
-use Rattle.field.specs.declared.Field.{Field}
-use Rattle.field.specs.declared.Field.TheVariants.{Got, Refused}
 use Rattle.field.specs.declared.Fault.{Fault}
 use Rattle.field.specs.Refusal.{note_of}
-use Rattle.field.specs.Told.{told}
 use Rattle.field.specs.Field.{taken, number, between, exactly, tenancy, kind, end}
 use Rattle.field.proofs.Sheet.{next, stops, pass, fail, at_here}
 
-pub told_got : {f : Field} {o : Out ℕ} {v e : ℕ} → told f ≡ o → f ≡ Got v e → o ≡ got v e
-unfolding told
-told_got h q = sym h ∙ ap told q
-
-pub told_refused : {f : Field} {o : Out ℕ} {r : Fault} → told f ≡ o → f ≡ Refused r → o ≡ refused (note_of r)
-unfolding told
-told_refused h q = sym h ∙ ap told q
+-- what a refusal at a place is told as
+pub refused_as : {A : Type 0} {f g : Fault} → f ≡ g → ◌≡◌ {A = Out A} (refused (note_of f)) (refused (note_of g))
+refused_as e = ap (λ f. refused (note_of f)) e
 
 module _ (s : List ℕ) (at : ℕ) where
   -- past the end no number is due any more

@@ -3,4 +3,5 @@ pub mod Refusal
 pub mod Field
 pub mod Told
 pub mod Put
+pub mod Pen
 pub mod Send

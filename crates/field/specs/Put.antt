@@ -13,6 +13,10 @@ spell_all spell (a ∷ rest) = spell a ++ spell_all spell rest
 unfoldable pub opening_bytes : ℕ → ℕ → ℕ → List ℕ
 opening_bytes kind unit t = encode kind ++ (encode unit ++ encode t)
 
+-- the bytes of a field that a sheet has or has not
+abbrev pub field_if : Bool → ℕ → List ℕ
+field_if held v = pick held (encode v) []
+
 -- whether v has room at a place
 unfoldable pub has_room : ℕ → List ℕ → ℕ → Bool
 has_room v out at = leb (at + width_of v) (length out)

@@ -1,22 +1,20 @@
 -- What a writer of sheets leaves in a lent buffer.
 --     Draft       a sheet's bytes, or why there is none
 --     Sent        what is answered, and the buffer afterwards
-use Rattle.std.specs.Prelude.{ℕ, ◌≡◌, List, length, leb}
+use Rattle.std.specs.Prelude.{ℕ, ◌≡◌, List, Result, length, leb}
 use Rattle.basics.specs.Choice.{pick}
-use Rattle.field.specs.declared.Written.{Written}
-use Rattle.field.specs.declared.Written.TheVariants.{Length, Refused}
+use Rattle.field.specs.declared.Fault.{Fault}
 use Rattle.basics.specs.Buffer.{over}
-use Rattle.field.specs.Refusal.{note_of}
 use Rattle.field.specs.Sheet.{Note, Out, got, refused, note}
+use Rattle.field.specs.Told.{told_by}
 
 pub data Draft : Type 0 where
   sheet : List ℕ → Draft
   none : Note → Draft
 
 -- the length written, or a refusal
-unfoldable pub told_written : Written → Out Unit
-told_written (Length n) = got tt n
-told_written (Refused f) = refused (note_of f)
+abbrev pub told_written : Result ℕ Fault → Out Unit
+told_written = told_by (got tt)
 
 -- a sheet that is longer than the buffer is refused with 11, last of all; that tells its length
 unfoldable pub answer_to : Draft → List ℕ → Out Unit
@@ -28,6 +26,6 @@ unfoldable pub left_by : Draft → List ℕ → List ℕ
 left_by (sheet bs) out = pick (leb (length bs) (length out)) (over bs out) out
 left_by (none e) out = out
 
-pub record Sent (d : Draft) (out : List ℕ) (r : Written) (after : List ℕ) : Type 0 where
+pub record Sent (d : Draft) (out : List ℕ) (r : Result ℕ Fault) (after : List ℕ) : Type 0 where
   pub answer : told_written r ≡ answer_to d out
   pub held : after ≡ left_by d out

@@ -12,7 +12,7 @@ use Rattle.basics.proofs.Tests.{by_cases}
 use Rattle.settings.specs.Table.{no_table}
 use Rattle.unit.specs.declared.Unit.{Unit as Shelf}
 use Rattle.field.specs.Sheet.{Note, unplaced}
-use Rattle.unit.specs.Life.{accepted, refused, Outcome, takes, refuses, rent}
+use Rattle.unit.specs.Life.{accepted, refused, Outcome, rent}
 use Rattle.unit.specs.Unit.{new_unit, tenanted}
 use Rattle.unit.proofs.Lives.{rent_rented, rent_low, rent_taken}
 use Rattle.hire.specs.Calls.{Call, Reply, Runs}
@@ -27,7 +27,6 @@ pub clash : {X : Type 0} (n : Note) → refused n ≡ accepted → X
 clash n h = absurd (let z : ◌≡◌ {A = ℕ} 0 1 = cc in omega arith)
 
 accepts : (u : Shelf) (t : ℕ) → (rent u t).verdict ≡ accepted → Accepts u t
-unfolding takes refuses
 accepts u t h =
     by_cases u.rented
     (λ r. clash (unplaced 12) (sym (ap (λ (o : Outcome). o.verdict) (rent_rented u t r)) ∙ h))
@@ -42,7 +41,7 @@ tenanted_same u v t e = ap {B = Shelf} (λ (n : ℕ). record { number = n; last 
 
 -- a new unit accepts any tenancy above 0
 new_accepts : (n t : ℕ) → 0 < t → (rent (new_unit n) t).unit ≡ tenanted (new_unit n) t
-unfolding new_unit takes
+unfolding new_unit
 new_accepts n t l = ap (λ (o : Outcome). o.unit) (rent_taken (new_unit n) t refl l)
 
 module _ (u : Shelf) (t : ℕ) (h : (rent u t).verdict ≡ accepted) where

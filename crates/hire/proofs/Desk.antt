@@ -4,10 +4,10 @@ use mathlib.Core.List.{List}
 use mathlib.Core.Path.{◌≡◌}
 use native.Mathlib.Omega.{arith}
 use lib.ListN.{length, take}
+use Rattle.std.specs.Prelude.{Ok}
 use Rattle.basics.specs.Limits.{blocks_most}
 use Rattle.number.specs.Bytes.{Bytes}
 use Rattle.model.specs.Case.{Case}
-use Rattle.field.specs.declared.Written.TheVariants.{Length}
 use Rattle.field.specs.Sheet.{got}
 use Rattle.plan.specs.Plan.{Plan}
 use Rattle.desk.specs.Desk.{PlanRead}
@@ -22,7 +22,7 @@ use Rattle.unit.proofs.Replies.{replied_read}
 
 -- a sound unit, numbers of 32 bits, a request that was answered with n bytes, and lists with room for every plan
 pub replied_handed : {u : Shelf} {s out after : List ℕ} (w : Sound u) (i : u.number < 2 ^ 32) (j : tenancy_of u < 2 ^ 32)
-    {r : Requested} (a : Replied u s out r after) {m : Case} {e : ℕ} (g : asked_of u s ≡ got m e) {n : ℕ} (h : r.answer ≡ Length n)
+    {r : Requested} (a : Replied u s out r after) {m : Case} {e : ℕ} (g : asked_of u s ≡ got m e) {n : ℕ} (h : r.answer ≡ Ok n)
     {disks set disks' set' : List ℕ} {x : ℕ} → Bytes (take n after) → blocks_most ≤ length disks → 2 * blocks_most ≤ length set
     → PlanRead u.number (tenancy_of u) (take n after) disks set x disks' set'
     → (p : Plan) × PlanFor m p × Handed p x disks' set'

@@ -38,7 +38,7 @@ use Rattle.hire.proofs.Runs.{runs_unique, unit_number, unit_sound}
 
 bare : (u : Shelf) (t : ℕ) → (give_back u t).verdict ≡ accepted
     → (give_back u t).unit ≡ record { number = u.number; last = u.last; rented = false; table = no_table }
-unfolding give_back takes refuses returned
+unfolding give_back returned
 bare u t =
     pick_elim
     (λ (o : Outcome). o.verdict ≡ accepted → o.unit ≡ record { number = u.number; last = u.last; rented = false; table = no_table })
@@ -65,7 +65,7 @@ free_alike n p q f g = record {
 
 settled_free : (u : Shelf) → u.rented ≡ false → (s : List ℕ) (o : Out Table) → settings_sheet u.number (tenancy_of u) s 0 ≡ o
     → (settled u o).unit ≡ u
-unfolding settled takes refuses
+unfolding settled
 settled_free u f s (refused_sheet n) h = refl
 settled_free u f s (got T e) h = absurd (omega (arith, tenancy_free u f, accepted_tenancy u.number (tenancy_of u) s T e h))
 
@@ -78,7 +78,7 @@ data Step (u v : Shelf) (r s : Reply) (x y : Shelf) : Call → Type 0 where
   apart : {t : ℕ} → Parts r s → Step u v r s x y (renting t)
 
 settled_verdict : (u v : Shelf) (o : Out Table) → (settled u o).verdict ≡ (settled v o).verdict
-unfolding settled takes refuses
+unfolding settled
 settled_verdict u v (got t e) = refl
 settled_verdict u v (refused_sheet n) = refl
 
@@ -101,7 +101,7 @@ module _ {u v : Shelf} (k : Alike u v) where
   same_sent x y out h = let e = same_tenancy in let n = k.number in cc
 
   step : (c : Call) (r s : Reply) (x y : Shelf) → Does u c r x → Does v c s y → Step u v r s x y c
-  unfolding Does Comes set takes refuses
+  unfolding Does Comes set
   step (setting z) r s x y p q =
       stay (p.0 ∙ ap said (same_set z) ∙ sym q.0)
       (p.1 ∙ settled_free u k.free z (settings_sheet u.number (tenancy_of u) z 0) refl)

@@ -20,7 +20,7 @@ use Rattle.planner.proofs.Plans.{plans_unique}
 use Rattle.unit.specs.declared.Done.{Done}
 use Rattle.unit.specs.declared.Requested.{Requested}
 use Rattle.unit.specs.declared.Unit.{Unit as Shelf}
-use Rattle.unit.specs.Life.{Outcome, takes, refuses, rent, settled, set, give_back}
+use Rattle.unit.specs.Life.{Outcome, rent, settled, set, give_back}
 use Rattle.unit.specs.Request.{asked_of, Replied}
 use Rattle.unit.specs.Sound.{Sound}
 use Rattle.unit.specs.Told.{told, told_verdict}
@@ -35,7 +35,7 @@ use Rattle.hire.specs.Calls.{Reply, said, planned, explained, Comes, sent, Does,
 -- ---- what the methods promise is a call's reply
 
 comes : {o : Outcome} (d : Done) → told d ≡ o → Comes o (said (told_verdict d.answer)) d.unit
-unfolding Comes told
+unfolding Comes
 comes d h = (ap (λ (o : Outcome). said o.verdict) h, ap (λ (o : Outcome). o.unit) h)
 
 pub rent_does : (u : Shelf) (t : ℕ) (d : Done) → told d ≡ rent u t → Does u (renting t) (said (told_verdict d.answer)) d.unit
@@ -89,11 +89,11 @@ abbrev Keeps : Shelf → Outcome → Type 0
 Keeps u o = o.unit.number ≡ u.number
 
 rent_number : (u : Shelf) (t : ℕ) → Keeps u (rent u t)
-unfolding rent takes refuses tenanted
+unfolding rent tenanted
 rent_number u t = pick_elim (Keeps u) u.rented _ _ (λ _. refl) λ _. pick_elim (Keeps u) (ltb u.last t) _ _ (λ _. refl) (λ _. refl)
 
 settled_number : (u : Shelf) (o : Out Table) → Keeps u (settled u o)
-unfolding settled takes refuses
+unfolding settled
 settled_number u (got t e) = refl
 settled_number u (refused_sheet n) = refl
 
@@ -102,7 +102,7 @@ unfolding set
 set_number u s = settled_number u _
 
 back_number : (u : Shelf) (t : ℕ) → Keeps u (give_back u t)
-unfolding give_back takes refuses returned
+unfolding give_back returned
 back_number u t = pick_elim (Keeps u) (u.rented && eqb t u.last) _ _ (λ _. refl) (λ _. refl)
 
 does_number : (u : Shelf) (c : Call) (r : Reply) (v : Shelf) → Does u c r v → v.number ≡ u.number

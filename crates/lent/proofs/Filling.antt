@@ -1,88 +1,57 @@
--- The loops between bytes and numbers.
---     Gathered     so many numbers of a list of bytes stand at the start of a list
---     Spread       the bytes of so many numbers stand at the start of a buffer
-use mathlib.Core.Path.{◌≡◌, sym, ap, ◌∙◌}
-use mathlib.Core.List.{List, [], ◌∷◌, ◌++◌, append_assoc}
-use Prim.Native.Nat.{ℕ, suc, ◌+◌, ◌*◌, ◌/◌, ◌%◌, ◌^◌, ◌≤◌, ◌<◌}
+-- The loops between bytes and numbers: one number more.
+use mathlib.Core.Path.{◌≡◌, refl, sym, ap, ◌∙◌}
+use mathlib.Core.List.{List, [], ◌∷◌, ◌++◌, append_assoc, map, map-append}
+use Prim.Native.Nat.{ℕ, zero, suc, ◌+◌, ◌*◌, ◌/◌, ◌%◌, ◌≤◌, ◌<◌}
 use native.Mathlib.Omega.{arith}
-use lib.ListN.{length, take, set, get_or, length-append}
-use lib.Seq.{length-take-le}
+use lib.ListN.{length, take, drop, set, get_or, length-append, length-map}
+use lib.Seq.{take-suc, length-take-le}
+use Rattle.std.specs.Simd.{first_chunks}
 use Rattle.field.specs.Put.{spell_all}
 use Rattle.field.proofs.Spell.{spell_more}
 use Rattle.basics.specs.Buffer.{over}
-use Rattle.basics.proofs.Buffer.{over_none, over_length, over_more}
-use Rattle.lent.specs.Numbers.{bytes_of, number_at, first_numbers, numbers}
-use Rattle.lent.proofs.Numbers.{first_length, first_more, spell_length}
+use Rattle.basics.proofs.Buffer.{over_more}
+use Rattle.lent.specs.Numbers.{value_of, bytes_of, first_numbers, numbers}
+use Rattle.lent.proofs.Numbers.{spell_length}
 
--- ---- numbers of w bytes, for any w
+-- ---- numbers of so many bytes, from bytes
 
-pub record Gathered (w n : ℕ) (bytes out after : List ℕ) (i : ℕ) : Type 0 where
-  pub count : n ≡ length bytes / w
-  pub below : i ≤ n
-  pub held : after ≡ over (first_numbers w i bytes) out
+-- what the part at i stands for is put behind those of the parts before it
+pub gathered_more : {A B : Type 0} (of : A → B) (cs : List A) (out : List B) (i : ℕ) {after : List B} (c : A) (v : B) → i < length cs
+    → length cs ≤ length out → c ≡ get_or cs i c → v ≡ of c → after ≡ over (map of (take i cs)) out
+    → set after i v ≡ over (map of (take (i + 1) cs)) out
+gathered_more {A} {B} of cs out i {after} c v l room h e g =
+    let n : length (map of (take i cs)) ≡ i = length-map (take i cs) of ∙ length-take-le i cs (omega arith) in
+    let last : of (get_or cs i c) ≡ v = ap of (sym h) ∙ sym e in
+    let more : map of (take i cs) ++ (v ∷ []) ≡ map of (take (i + 1) cs) =
+    ap (λ (x : B). map of (take i cs) ++ (x ∷ [])) (sym last)
+    ∙ sym (map-append of (take i cs) (get_or cs i c ∷ []))
+    ∙ ap (map of) (sym (take-suc cs i c l) ∙ ap (λ (k : ℕ). take k cs) {x = suc i} {y = i + 1} (omega arith)) in
+    ap (λ (x : List B). set x i v) g ∙ over_more (map of (take i cs)) out i v n (omega arith) ∙ ap (λ (x : List B). over x out) more
 
-module _ {w n : ℕ} {bytes out : List ℕ} where
-  pub gathered_start : n ≡ length bytes / w → Gathered w n bytes out out 0
-  unfolding first_numbers
-  gathered_start h = record { count = h; below = omega arith; held = over_none out }
+-- the numbers of the library's parts are the list's numbers
+first_parts : (w n : ℕ) (s : List ℕ) → map value_of (first_chunks w n s) ≡ first_numbers w n s
+unfolding first_numbers
+first_parts w zero s = refl
+first_parts w (suc n) s = ap (λ (x : List ℕ). value_of (take w s) ∷ x) (first_parts w n (drop w s))
 
-  pub gathered_step : {after : List ℕ} {i v : ℕ} → Gathered w n bytes out after i → i < n → n ≤ length out → v ≡ number_at w bytes (w * i)
-      → Gathered w n bytes out (set after i v) (i + 1)
-  gathered_step {after} {i} {v} g l room e =
-      let s : suc i ≡ i + 1 = omega arith in
-      record {
-        count = g.count;
-        below = omega arith;
-        held = ap (λ (x : List ℕ). set x i v) g.held
-            ∙ over_more (first_numbers w i bytes) out i v (first_length w i bytes) (omega arith)
-            ∙ ap (λ (x : ℕ). over (first_numbers w i bytes ++ (x ∷ [])) out) e
-            ∙ ap (λ (x : List ℕ). over x out) (sym (first_more w i bytes))
-            ∙ ap (λ (k : ℕ). over (first_numbers w k bytes) out) s;
-      }
+pub parts_numbers : (w : ℕ) (s : List ℕ) → map value_of (first_chunks w (length s / w) s) ≡ numbers w s
+unfolding numbers
+parts_numbers w s = first_parts w (length s / w) s
 
-  pub gathered_done : {after : List ℕ} {i : ℕ} → Gathered w n bytes out after i → n ≤ i → after ≡ over (numbers w bytes) out
-  unfolding numbers
-  gathered_done {after} {i} g l =
-      let e : i ≡ length bytes / w = omega (arith, g.count, g.below) in
-      g.held ∙ ap (λ (k : ℕ). over (first_numbers w k bytes) out) e
+-- ---- numbers of two bytes, as bytes
 
--- ---- numbers of two bytes
-
-pub record Spread (xs out after : List ℕ) (m i : ℕ) : Type 0 where
-  pub below : i ≤ m
-  pub held : after ≡ over (spell_all (bytes_of 2) (take i xs)) out
-
-module _ {xs out : List ℕ} {m : ℕ} where
-  pub spread_start : Spread xs out out m 0
-  unfolding spell_all
-  spread_start = record { below = omega arith; held = over_none out }
-
-  module _ {after : List ℕ} {i : ℕ} (s : Spread xs out after m i) (many : m ≤ length xs) (room : 2 * m ≤ length out) where
-    done_length : length (spell_all (bytes_of 2) (take i xs)) ≡ 2 * i
-    done_length = omega (arith, spell_length 2 (take i xs), length-take-le i xs (omega (arith, s.below)))
-
-    pub spread_length : length after ≡ length out
-    spread_length = ap length s.held ∙ over_length (spell_all (bytes_of 2) (take i xs)) out (omega (arith, done_length, s.below))
-
-    pub spread_step : {x lo hi : ℕ} → i < m → x ≡ get_or xs i 0 → x < 2 ^ 16 → lo ≡ x % 256 → hi ≡ x / 256
-        → Spread xs out (set (set after (2 * i) lo) (2 * i + 1) hi) m (i + 1)
-    unfolding bytes_of
-    spread_step {x} {lo} {hi} l e small low high =
-        let pair : lo ∷ hi ∷ [] ≡ bytes_of 2 (get_or xs i 0) =
-        ap (λ (v : ℕ). v ∷ hi ∷ []) (low ∙ ap (λ (v : ℕ). v % 256) e)
-        ∙ ap (λ (v : ℕ). get_or xs i 0 % 256 ∷ v ∷ []) {x = hi} {y = get_or xs i 0 / 256 % 256} (omega (arith, e, high, small)) in
-        record {
-          below = omega arith;
-          held = ap (λ (y : List ℕ). set (set y (2 * i) lo) (2 * i + 1) hi) s.held
-              ∙ ap (λ (y : List ℕ). set y (2 * i + 1) hi)
-              (over_more (spell_all (bytes_of 2) (take i xs)) out (2 * i) lo done_length (omega arith))
-              ∙ over_more (spell_all (bytes_of 2) (take i xs) ++ (lo ∷ [])) out (2 * i + 1) hi
-              (omega (arith, done_length, length-append (spell_all (bytes_of 2) (take i xs)) (lo ∷ []))) (omega arith)
-              ∙ ap (λ (y : List ℕ). over y out) (append_assoc (spell_all (bytes_of 2) (take i xs)) (lo ∷ []) (hi ∷ [])
-              ∙ ap (λ (y : List ℕ). spell_all (bytes_of 2) (take i xs) ++ y) pair ∙ spell_more (bytes_of 2) xs i 0 (omega arith));
-        }
-
-    pub spread_done : m ≤ i → after ≡ over (spell_all (bytes_of 2) (take m xs)) out
-    spread_done l =
-        let e : i ≡ m = omega (arith, s.below) in
-        s.held ∙ ap (λ (k : ℕ). over (spell_all (bytes_of 2) (take k xs)) out) e
+-- the two bytes of the number at i are put behind those of the numbers before it
+pub spread_more : (xs out : List ℕ) (i : ℕ) {after two : List ℕ} → i < length xs → 2 * length xs ≤ length out
+    → two ≡ bytes_of 2 (get_or xs i 0) → after ≡ over (spell_all (bytes_of 2) (take i xs)) out
+    → set (set after (2 * i) (get_or two 0 0)) (2 * i + 1) (get_or two 1 0) ≡ over (spell_all (bytes_of 2) (take (i + 1) xs)) out
+unfolding bytes_of
+spread_more xs out i {after} {two} l room e g =
+    let lo : ℕ = get_or xs i 0 % 256 in
+    let hi : ℕ = get_or xs i 0 / 256 % 256 in
+    let before : List ℕ = spell_all (bytes_of 2) (take i xs) in
+    let n : length before ≡ 2 * i = omega (arith, spell_length 2 (take i xs), length-take-le i xs (omega arith)) in
+    ap (λ (y : List ℕ). set (set after (2 * i) (get_or y 0 0)) (2 * i + 1) (get_or y 1 0)) e
+    ∙ ap (λ (y : List ℕ). set (set y (2 * i) lo) (2 * i + 1) hi) g
+    ∙ ap (λ (y : List ℕ). set y (2 * i + 1) hi) (over_more before out (2 * i) lo n (omega arith))
+    ∙ over_more (before ++ (lo ∷ [])) out (2 * i + 1) hi (omega (arith, n, length-append before (lo ∷ []))) (omega arith)
+    ∙ ap (λ (y : List ℕ). over y out) (append_assoc before (lo ∷ []) (hi ∷ []) ∙ spell_more (bytes_of 2) xs i 0 l)

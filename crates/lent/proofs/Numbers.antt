@@ -11,7 +11,8 @@ use native.Mathlib.Nat.{pow-suc, mul-zero, mul-suc, mul_assoc, mul_comm, mul-div
 use borrow.Author.Tests.{ltb-false}
 use mathlib.Core.Bool.{false}
 use lib.ListN.{length, take, drop, get_or, length-append, length-drop, take-append-drop}
-use lib.Seq.{drop-cons, drop-drop, take-add, length-take-le, take_at, drop_at}
+use Rattle.std.specs.Int.{w32, w64, from_le_bytes}
+use lib.Seq.{take_all, drop-cons, drop-drop, take-add, length-take-le, take_at, drop_at}
 use Rattle.number.specs.Bytes.{Bytes}
 use Rattle.number.proofs.Part.{drop_bytes}
 use Rattle.field.specs.Put.{spell_all}
@@ -71,6 +72,29 @@ number_four s at {a} {b} {c} {d} h p q r t =
       number_step 0 s (at + 1 + 1 + 1) (omega arith),
       number_none s (at + 1 + 1 + 1 + 1),
     )
+
+whole : (s : List ℕ) → number_at (length s) s 0 ≡ value_of s
+unfolding number_at
+whole s = ap value_of (take_all (length s) s (omega arith))
+
+-- what the library reads from four bytes, and from eight
+pub value_four : (s : List ℕ) → length s ≡ 4 → from_le_bytes w32 s ≡ value_of s
+value_four s h = omega (
+  arith,
+  number_four s 0 (omega arith) refl refl refl refl,
+  whole s,
+  ap (λ (k : ℕ). number_at k s 0) h,
+)
+
+pub value_eight : (s : List ℕ) → length s ≡ 8 → from_le_bytes w64 s ≡ value_of s
+value_eight s h = omega (
+  arith,
+  number_split 4 4 s 0 (omega arith),
+  number_four s 0 (omega arith) refl refl refl refl,
+  number_four s 4 (omega arith) refl refl refl refl,
+  whole s,
+  ap (λ (k : ℕ). number_at k s 0) h,
+)
 
 -- ---- a list of numbers
 

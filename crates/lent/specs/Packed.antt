@@ -4,14 +4,10 @@
 --     writer_answer, reader_answer     what is answered
 --     refusal_in, place_in, length_in, blocks_in, time_in, size_in     what a caller takes out
 --     Fits32, FitsBits               values that have room in their bits
-use Rattle.std.specs.Prelude.{ℕ, ◌+◌, ◌*◌, ◌/◌, ◌%◌, ◌^◌, ◌<◌}
+use Rattle.std.specs.Prelude.{ℕ, ◌+◌, ◌*◌, ◌/◌, ◌%◌, ◌^◌, ◌<◌, Result, Ok, Err}
 use Rattle.field.specs.Sheet.{Note, Out, got, refused}
-use Rattle.field.specs.declared.Written.{Written}
-use Rattle.field.specs.declared.Written.TheVariants.{Length, Refused}
+use Rattle.field.specs.declared.Fault.{Fault}
 use Rattle.plan.specs.declared.Head.{Head}
-use Rattle.plan.specs.declared.Answer.{Answer}
-use Rattle.plan.specs.declared.Answer.TheVariants.{Accepted}
-use Rattle.plan.specs.declared.Answer.TheVariants.{Refused as Not}
 
 -- bits 0 to 7 the refusal
 abbrev pub refusals : ℕ
@@ -82,11 +78,11 @@ unfoldable pub size_in : ℕ → ℕ
 size_in a = a / size_at % counts
 
 -- a length or a place of 32 bits
-unfoldable pub Fits32 : Written → Type 0
-Fits32 (Length n) = n < lengths
-Fits32 (Refused f) = f.place < lengths
+abbrev pub Fits32 : Result ℕ Fault → Type 0
+Fits32 (Ok n) = n < lengths
+Fits32 (Err f) = f.place < lengths
 
 -- Q and m of 11 bits, R of 31, a place of 32
-unfoldable pub FitsBits : Answer → Type 0
-FitsBits (Accepted h) = (h.blocks < counts) × (h.time < times) × (h.size < counts)
-FitsBits (Not f) = f.place < lengths
+abbrev pub FitsBits : Result Head Fault → Type 0
+FitsBits (Ok h) = (h.blocks < counts) × (h.time < times) × (h.size < counts)
+FitsBits (Err f) = f.place < lengths

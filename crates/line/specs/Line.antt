@@ -1,5 +1,6 @@
 -- The lines that the programs print, in ASCII; each ends with one line feed.
 --     spoken        a word, or a word and one or two numbers
+--     refused_text, refused_at_text, stopped_text    the lines of refusals, by number and place
 --     plan_line      a plan's fields
 --     sheet_line     a plan sheet's bytes
 use Rattle.std.specs.Prelude.{ℕ, ◌-◌, ◌/◌, List, [], ◌∷◌, ◌++◌, length, leb}
@@ -47,14 +48,24 @@ word_plan = ascii "plan"
 unfoldable pub bar : List ℕ
 bar = ascii " |"
 
--- a word; a word and a number; a refusal with its place, or without; a reason's number and its time
-unfoldable pub spoken : Word → List ℕ
+-- a refusal's number, without its place or with it; the number of the refusal at which a stream stops
+unfoldable pub refused_text : ℕ → List ℕ
+refused_text n = word_refused ++ (spaced n ++ feed)
+
+unfoldable pub refused_at_text : ℕ → ℕ → List ℕ
+refused_at_text n p = word_refused ++ (spaced n ++ (spaced p ++ feed))
+
+unfoldable pub stopped_text : ℕ → List ℕ
+stopped_text n = word_stopped ++ (spaced n ++ feed)
+
+-- a word; a refusal; a reason's number and its time
+abbrev pub spoken : Word → List ℕ
 spoken Rented = word_rented ++ feed
 spoken Set = word_set ++ feed
 spoken Returned = word_returned ++ feed
-spoken (Refused n) = word_refused ++ (spaced n ++ feed)
-spoken (RefusedAt n p) = word_refused ++ (spaced n ++ (spaced p ++ feed))
-spoken (Stopped n) = word_stopped ++ (spaced n ++ feed)
+spoken (Refused n) = refused_text n
+spoken (RefusedAt n p) = refused_at_text n p
+spoken (Stopped n) = stopped_text n
 spoken (Reason k t) = word_reason ++ (spaced k ++ (spaced t ++ feed))
 
 -- plan, unit, tenancy, Q, R, the disks by block, the short set, parted by single spaces

@@ -1,7 +1,10 @@
 -- What only the private functions promise.
-use Rattle.std.specs.Prelude.{ℕ, ◌≤◌, List, ◌++◌, length}
+use Rattle.std.specs.Prelude.{ℕ, ◌≡◌, ◌≤◌, List, ◌++◌, length}
+use Rattle.line.specs.declared.Pen.{Pen}
 use Rattle.line.specs.Printed.{Printed}
 
--- behind whatever stands at the buffer's start up to a place, these bytes were put too, if they have room
-pub record Adds (bytes mid : List ℕ) (at : ℕ) (after : List ℕ) (next : ℕ) : Type 0 where
-  pub add : (out line : List ℕ) → Printed line out at mid → length (line ++ bytes) ≤ length out → Printed (line ++ bytes) out next after
+-- a pen put these bytes behind whatever stands at its buffer's start up to its place, if they have room; the buffer is still the same
+pub record Writes (bytes : List ℕ) (pen pen' : Pen) : Type 0 where
+  pub same : pen'.out.ghost_name ≡ pen.out.ghost_name
+  pub add : (out line : List ℕ) → Printed line out pen.at pen.out.now → length (line ++ bytes) ≤ length out
+      → Printed (line ++ bytes) out pen'.at pen'.out.now

@@ -8,10 +8,11 @@ ghost use Rattle.line.specs.Text.{decimal, spaced, hex};
 ghost use Rattle.line.specs.Text.{digit as digit_of};
 ghost use Rattle.line.specs.Line.{feed, bar, word_plan, spoken, plan_line, sheet_line};
 ghost use Rattle.line.specs.Printed.{Printed};
-ghost use Rattle.line.specs.Parts.{Adds};
+ghost use Rattle.line.specs.Parts.{Writes};
 
 use basics::BLOCKS;
 use field::Fault;
+use number::Numeral;
 
 // The bytes of a line's buffer, and of the longest sheet that has room there in hex.
 pub const LINE_MOST: usize = 65536;
@@ -20,7 +21,8 @@ pub const SHEET_MOST: usize = (LINE_MOST - 6) / 2;
 
 pub type Line = [u8; LINE_MOST];
 
-// What a line can say in a word, or in a word and one or two numbers.
+// What a line can say in a word, or in a word and one or two numbers. Refusals and reasons come as their numbers: a line of any number
+// is promised (`say`), and the reasons are of a crate above.
 #[derive(Clone, Copy)]
 pub enum Word {
     Rented,
@@ -32,180 +34,167 @@ pub enum Word {
     Reason(u32, u32),
 }
 
-// Puts a byte at a place and answers the place after it; where it has no room, answers the same place.
-fn put_byte(b: u8, out: &mut [u8], at: usize) -> usize
-    ensures { Adds (b ∷ []) out.old at out.new result }
-{
-    if out.len() <= at {
-        return at;
-    }
-    out[at] = b;
-    at + 1
-}
-
-fn put_text(text: &[u8], out: &mut [u8], at: usize) -> usize
-    ensures { Adds text.now out.old at out.new result }
-{
-    let mut p = at;
-    let mut i: usize = 0;
-    while i < text.len() {
-        p = put_byte(text[i], out, p);
-        i += 1;
-    }
-    p
-}
-
-// The digits before the last one go first.
-fn put_decimal(v: u64, out: &mut [u8], at: usize) -> usize
-    ensures { Adds (decimal v) out.old at out.new result }
-{
-    if v < 10 {
-        return put_byte(48 + v as u8, out, at);
-    }
-    let p = put_decimal(v / 10, out, at);
-    put_byte(48 + (v % 10) as u8, out, p)
-}
-
-fn put_spaced(v: u64, out: &mut [u8], at: usize) -> usize
-    ensures { Adds (spaced v) out.old at out.new result }
-{
-    let p = put_byte(32, out, at);
-    put_decimal(v, out, p)
-}
-
-fn put_disks(xs: &[u8], out: &mut [u8], at: usize) -> usize
-    ensures { Adds (spell_all spaced xs.now) out.old at out.new result }
-{
-    let mut p = at;
-    let mut i: usize = 0;
-    while i < xs.len() {
-        p = put_spaced(xs[i] as u64, out, p);
-        i += 1;
-    }
-    p
-}
-
-fn put_blocks(xs: &[u16], out: &mut [u8], at: usize) -> usize
-    ensures { Adds (spell_all spaced xs.now) out.old at out.new result }
-{
-    let mut p = at;
-    let mut i: usize = 0;
-    while i < xs.len() {
-        p = put_spaced(xs[i] as u64, out, p);
-        i += 1;
-    }
-    p
-}
-
 // A digit below 16.
 fn digit(d: u8) -> u8
     requires { d < 16 }
     ensures { result ≡ digit_of d }
 {
-    if d < 10 { 48 + d } else { 87 + d }
+    if d < 10 { b'0' + d } else { b'a' - 10 + d }
 }
 
-// Two digits for each byte, if all of them have room.
-fn put_hex(xs: &[u8], out: &mut [u8], at: usize) -> usize
-    ensures { Adds (hex xs.now) out.old at out.new result }
-{
-    if out.len() < at {
-        return at;
+// A lent buffer, and the place where the next byte goes. Not field's pen, which puts numbers: another crate's struct takes no methods here.
+#[derive(Drop)]
+struct Pen<'a> {
+    out: &'a mut [u8],
+    at: usize,
+}
+
+impl Pen<'_> {
+    // Puts a byte; where it has no room, changes nothing.
+    fn byte(&mut self, b: u8)
+        ensures { Writes (b ∷ []) self.old self.new }
+    {
+        if self.at < self.out.len() {
+            self.out[self.at] = b;
+            self.at += 1;
+        }
     }
-    if (out.len() - at) / 2 < xs.len() {
-        return at;
+
+    fn text(&mut self, text: &[u8])
+        ensures { Writes text.now self.old self.new }
+    {
+        for b in text {
+            self.byte(*b);
+        }
     }
-    let mut i: usize = 0;
-    while i < xs.len() {
-        let b = xs[i];
-        out[at + 2 * i] = digit(b / 16);
-        out[at + 2 * i + 1] = digit(b % 16);
-        i += 1;
+
+    // The digits before the last one go first.
+    fn decimal(&mut self, v: u64)
+        ensures { Writes (decimal v) self.old self.new }
+    {
+        if v < 10 {
+            self.byte(b'0' + v as u8);
+        } else {
+            self.decimal(v / 10);
+            self.byte(b'0' + (v % 10) as u8);
+        }
     }
-    at + 2 * xs.len()
-}
 
-// A word, and the end of the line.
-fn plain(word: &[u8], out: &mut [u8]) -> usize
-    ensures { Adds (word.now ++ feed) out.old 0 out.new result }
-{
-    let p = put_text(word, out, 0);
-    put_byte(10, out, p)
-}
+    fn spaced(&mut self, v: u64)
+        ensures { Writes (spaced v) self.old self.new }
+    {
+        self.byte(b' ');
+        self.decimal(v);
+    }
 
-// A word, a number, and the end of the line.
-fn numbered(word: &[u8], n: u32, out: &mut [u8]) -> usize
-    ensures { Adds (word.now ++ (spaced n ++ feed)) out.old 0 out.new result }
-{
-    let p = put_text(word, out, 0);
-    let q = put_spaced(n as u64, out, p);
-    put_byte(10, out, q)
-}
+    // The numbers of a list, each behind a space.
+    fn list<T: Numeral>(&mut self, xs: &[T])
+        ensures { Writes (spell_all (λ x. spaced (T.value x)) xs.now) self.old self.new }
+    {
+        for x in xs {
+            let v: u32 = (*x).into();
+            self.spaced(u64::from(v));
+        }
+    }
 
-// A word, a number and a place or a time, and the end of the line.
-fn placed(word: &[u8], n: u32, place: usize, out: &mut [u8]) -> usize
-    ensures { Adds (word.now ++ (spaced n ++ (spaced place ++ feed))) out.old 0 out.new result }
-{
-    let p = put_text(word, out, 0);
-    let q = put_spaced(n as u64, out, p);
-    let e = put_spaced(place as u64, out, q);
-    put_byte(10, out, e)
+    // Two digits for each byte. Whether they have room is asked once: byte by byte, a plan's line took an eighth more instructions.
+    fn hex(&mut self, xs: &[u8])
+        ensures { Writes (hex xs.now) self.old self.new }
+    {
+        let room = self.out.len().saturating_sub(self.at);
+        if xs.len() <= room / 2 {
+            let mut at = self.at;
+            for b in xs {
+                self.out[at] = digit(b / 16);
+                self.out[at + 1] = digit(b % 16);
+                at += 2;
+            }
+            self.at = at;
+        }
+    }
+
+    // A word, and the end of the line.
+    fn plain(&mut self, word: &[u8])
+        ensures { Writes (word.now ++ feed) self.old self.new }
+    {
+        self.text(word);
+        self.byte(b'\n');
+    }
+
+    // A word, a number, and the end of the line.
+    fn numbered(&mut self, word: &[u8], n: u32)
+        ensures { Writes (word.now ++ (spaced n ++ feed)) self.old self.new }
+    {
+        self.text(word);
+        self.spaced(u64::from(n));
+        self.byte(b'\n');
+    }
+
+    // A word, a number and a place or a time, and the end of the line.
+    fn placed(&mut self, word: &[u8], n: u32, place: u64)
+        ensures { Writes (word.now ++ (spaced n ++ (spaced place ++ feed))) self.old self.new }
+    {
+        self.text(word);
+        self.spaced(u64::from(n));
+        self.spaced(place);
+        self.byte(b'\n');
+    }
+
+    fn word(&mut self, w: Word)
+        ensures { Writes (spoken w) self.old self.new }
+    {
+        match w {
+            Word::Rented => self.plain(b"rented"),
+            Word::Set => self.plain(b"set"),
+            Word::Returned => self.plain(b"returned"),
+            Word::Refused(n) => self.numbered(b"refused", n),
+            Word::RefusedAt(n, place) => self.placed(b"refused", n, place as u64),
+            Word::Stopped(n) => self.numbered(b"stopped", n),
+            Word::Reason(k, t) => self.placed(b"reason", k, u64::from(t)),
+        }
+    }
+
+    // The fields before the lists.
+    fn heading(&mut self, unit: u32, tenancy: u32, q: u32, time: u32)
+        ensures { Writes (word_plan ++ spell_all spaced (unit ∷ tenancy ∷ q ∷ time ∷ [])) self.old self.new }
+    {
+        self.text(b"plan");
+        self.list(&[unit, tenancy, q, time]);
+    }
+
+    // A list behind a bar.
+    fn barred<T: Numeral>(&mut self, xs: &[T])
+        ensures { Writes (bar ++ spell_all (λ x. spaced (T.value x)) xs.now) self.old self.new }
+    {
+        self.text(b" |");
+        self.list(xs);
+    }
 }
 
 pub fn say(w: Word, line: &mut Line) -> usize
     ensures { Printed (spoken w) line.old result line.new }
 {
-    match w {
-        Word::Rented => plain(b"rented", line),
-        Word::Set => plain(b"set", line),
-        Word::Returned => plain(b"returned", line),
-        Word::Refused(n) => numbered(b"refused", n, line),
-        Word::RefusedAt(n, place) => placed(b"refused", n, place, line),
-        Word::Stopped(n) => numbered(b"stopped", n, line),
-        Word::Reason(k, t) => placed(b"reason", k, t as usize, line),
-    }
+    let mut pen = Pen { out: line, at: 0 };
+    pen.word(w);
+    pen.at
 }
 
 // The line of a refusal, without its place.
 pub fn refuse(f: Fault, line: &mut Line) -> usize
     ensures { Printed (spoken (Word.Refused (number_of f.refusal))) line.old result line.new }
 {
-    let why = f.refusal;
-    say(Word::Refused(field::number_of(why)), line)
+    say(Word::Refused(u32::from(f.refusal)), line)
 }
 
 // The line of a refusal, with its place.
 pub fn refuse_at(f: Fault, line: &mut Line) -> usize
     ensures { Printed (spoken (Word.RefusedAt (number_of f.refusal) f.place)) line.old result line.new }
 {
-    let why = f.refusal;
-    say(Word::RefusedAt(field::number_of(why), f.place), line)
+    say(Word::RefusedAt(u32::from(f.refusal), f.place), line)
 }
 
-// The fields before the lists.
-fn put_head(unit: u32, tenancy: u32, q: u32, time: u32, out: &mut [u8]) -> usize
-    ensures { Adds (word_plan ++ spell_all spaced (unit ∷ tenancy ∷ q ∷ time ∷ [])) out.old 0 out.new result }
-{
-    let a = put_text(b"plan", out, 0);
-    let b = put_spaced(unit as u64, out, a);
-    let c = put_spaced(tenancy as u64, out, b);
-    let d = put_spaced(q as u64, out, c);
-    put_spaced(time as u64, out, d)
-}
-
-// The two lists, and the end of the line.
-fn put_lists(disks: &[u8], short: &[u16], out: &mut [u8], at: usize) -> usize
-    ensures { Adds (bar ++ (spell_all spaced disks.now ++ (bar ++ (spell_all spaced short.now ++ feed))))
-        out.old at out.new result }
-{
-    let a = put_text(b" |", out, at);
-    let b = put_disks(disks, out, a);
-    let c = put_text(b" |", out, b);
-    let d = put_blocks(short, out, c);
-    put_byte(10, out, d)
-}
-
-// A plan's line; where a list has more than 1,024 entries, answers 0 and changes nothing.
+// A plan's line; where a list has more than 1,024 entries, answers 0 and changes nothing. No Option: the answer is how many bytes there
+// are to print, and then there are none (`Printed`).
 pub fn plan_line(
     unit: u32,
     tenancy: u32,
@@ -217,24 +206,27 @@ pub fn plan_line(
     ensures { Printed (plan_line unit tenancy (record { time = time; disks = disks.now; short = short.now }))
         line.old result line.new }
 {
-    if BLOCKS < disks.len() {
+    if BLOCKS < disks.len() || BLOCKS < short.len() {
         return 0;
     }
-    if BLOCKS < short.len() {
-        return 0;
-    }
-    let p = put_head(unit, tenancy, disks.len() as u32, time, line);
-    put_lists(disks, short, line, p)
+    let mut pen = Pen { out: line, at: 0 };
+    pen.heading(unit, tenancy, disks.len() as u32, time);
+    pen.barred(disks);
+    pen.barred(short);
+    pen.byte(b'\n');
+    pen.at
 }
 
-// A plan sheet's line in hex; where the line would be longer than its buffer, answers 0 and changes nothing.
+// A plan sheet's line in hex; where the line would be longer than its buffer, answers 0 and changes nothing, as `plan_line`.
 pub fn sheet_line(sheet: &[u8], line: &mut Line) -> usize
     ensures { Printed (sheet_line sheet.now) line.old result line.new }
 {
     if SHEET_MOST < sheet.len() {
         return 0;
     }
-    let a = put_text(b"plan ", line, 0);
-    let b = put_hex(sheet, line, a);
-    put_byte(10, line, b)
+    let mut pen = Pen { out: line, at: 0 };
+    pen.text(b"plan ");
+    pen.hex(sheet);
+    pen.byte(b'\n');
+    pen.at
 }

@@ -3,3 +3,4 @@ pub mod Bits
 pub mod Zeros
 pub mod Members
 pub mod Unique
+pub mod Listed

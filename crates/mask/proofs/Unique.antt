@@ -1,8 +1,9 @@
 -- Each promise has one answer: no second one of as many bits satisfies it.
---     told_unique                   `held`, `count`
+--     told_unique                   `held`, `count`, `disks`
 --     mask_unique                   `both`, `either`, `without`, `put`, `take`, `only`, `before`
 --     below_unique, lowest_unique   `below`, `lowest`
-use mathlib.Core.Path.{◌≡◌, sym, ◌∙◌}
+use Rattle.std.proofs.Common.{Option, None, Some}
+use mathlib.Core.Path.{◌≡◌, refl, sym, ap, ◌∙◌}
 use mathlib.Core.Bool.{Bool, true≢false}
 use mathlib.Core.Logic.{◌⊎◌, inl, inr, ⊎_elim}
 use Prim.Native.Nat.{ℕ, ◌^◌, ◌≤◌, ◌<◌}
@@ -11,8 +12,8 @@ use native.Mathlib.Omega.{arith}
 use lib.Dec.{ltb}
 use Rattle.mask.specs.Has.{has}
 use Rattle.mask.specs.Member.{Below}
-use Rattle.mask.specs.Lowest.{Lowest}
-use Rattle.mask.proofs.Has.{has_ext}
+use Rattle.mask.specs.Lowest.{First, Lowest}
+use Rattle.mask.proofs.Has.{has_ext, has_zero}
 use Rattle.basics.specs.Limits.{disks_most}
 use Rattle.basics.proofs.Tests.{lt_or_le}
 
@@ -31,13 +32,19 @@ below_unique k n r r' h h' p q =
     (λ l. mask_unique k (λ e. ltb e disks_most) r r' h h' (p.beyond l) (q.beyond l)) (lt_or_le n disks_most)
 
 -- no lowest disk stands under another
-no_lower : (m r r' : ℕ) → Lowest m r → Lowest m r' → r < r' → ⊥
-no_lower m r r' p q l = true≢false (sym (p.found (omega (arith, q.within))) ∙ q.under r l)
+no_lower : (m d d' : ℕ) → First m d → First m d' → d < d' → ⊥
+no_lower m d d' p q l = true≢false (sym p.found ∙ q.under d l)
 
-pub lowest_unique : (m r r' : ℕ) → Lowest m r → Lowest m r' → r ≡ r'
-lowest_unique m r r' p q = side (lt_or_le r r') (lt_or_le r' r)
+none_first : (m d : ℕ) → m ≡ 0 → First m d → ⊥
+none_first m d z p = true≢false (sym p.found ∙ ap (λ (y : ℕ). has y d) z ∙ has_zero d)
+
+pub lowest_unique : (m : ℕ) (r r' : Option ℕ) → Lowest m r → Lowest m r' → r ≡ r'
+lowest_unique m None None p q = refl
+lowest_unique m None (Some d) p q = absurd (none_first m d p q)
+lowest_unique m (Some d) None p q = absurd (none_first m d q p)
+lowest_unique m (Some d) (Some d') p q = ap Some (side (lt_or_le d d') (lt_or_le d' d))
   where
-    side : (r < r') ⊎ (r' ≤ r) → (r' < r) ⊎ (r ≤ r') → r ≡ r'
-    side (inl l) k = absurd (no_lower m r r' p q l)
-    side (inr l) (inl k) = absurd (no_lower m r' r q p k)
+    side : (d < d') ⊎ (d' ≤ d) → (d' < d) ⊎ (d ≤ d') → d ≡ d'
+    side (inl l) k = absurd (no_lower m d d' p q l)
+    side (inr l) (inl k) = absurd (no_lower m d' d q p k)
     side (inr l) (inr k) = omega arith

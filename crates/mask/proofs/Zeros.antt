@@ -1,16 +1,16 @@
 -- Laws of the lowest disk of a mask: as many zeros stand under it as the number has at its end.
 --     zeros_under, zeros_found                a number of k bits: no disk under its trailing zeros, and a disk at them if they are under k
---     zeros_lowest                            at disks_most bits they are the lowest disk
---     lowest_zero, lowest_some, lowest_has    disks_most is told of 0 alone; otherwise it is a disk, and one of the mask
+--     zeros_first                             at disks_most bits they are the lowest disk of a number that is not 0
 use mathlib.Core.Path.{◌≡◌, ap, ◌∙◌}
 use mathlib.Core.Bool.{true, false}
 use mathlib.Core.Logic.{⊎_elim}
-use Prim.Native.Nat.{ℕ, zero, suc, ◌/◌, ◌%◌, ◌^◌, ◌≤◌, ◌<◌}
+use Prim.Native.Nat.{ℕ, zero, suc, ◌/◌, ◌%◌, ◌^◌, ◌<◌}
 use native.Mathlib.Omega.{arith}
 use lib.Dec.{eqb}
 use lib.Count.{count_trailing_zeros, under, trailing_le}
 use Rattle.mask.specs.Has.{has}
-use Rattle.mask.specs.Lowest.{Lowest}
+use Rattle.std.specs.Prelude.{None}
+use Rattle.mask.specs.Lowest.{First, Lowest}
 use Rattle.mask.proofs.Has.{has_first, has_half, mask_zero, odd_or_even}
 use Rattle.basics.specs.Limits.{disks_most}
 use Rattle.basics.proofs.Tests.{lt_or_le}
@@ -40,16 +40,14 @@ zeros_found (suc k) m l =
     odd_or_even m (λ o. ap (has m) (zeros_odd k m o) ∙ has_first m ∙ ap (λ (x : ℕ). eqb x 1) o)
     (λ z. let e = zeros_even k m z in ap (has m) e ∙ has_half m (count_trailing_zeros k (m / 2)) ∙ zeros_found k (m / 2) (omega arith))
 
-pub zeros_lowest : (m : ℕ) → Lowest m (count_trailing_zeros disks_most m)
-zeros_lowest m = record { within = trailing_le disks_most m; under = zeros_under disks_most m; found = zeros_found disks_most m }
+-- of a number that is not 0 they are the lowest disk
+pub zeros_first : (m : ℕ) → m < 2 ^ disks_most → (m ≡ 0 → ⊥) → First m (count_trailing_zeros disks_most m)
+zeros_first m h n =
+    let l : count_trailing_zeros disks_most m < disks_most =
+    ⊎_elim (λ k. k) (λ k. absurd (n (mask_zero disks_most m h (λ d g. zeros_under disks_most m d (omega (arith, g, k))))))
+    (lt_or_le (count_trailing_zeros disks_most m) disks_most) in
+    record { disk = l; under = zeros_under disks_most m; found = zeros_found disks_most m l }
 
--- ---- what is known of the lowest disk
-
-pub lowest_zero : (m r : ℕ) → m < 2 ^ disks_most → disks_most ≤ r → Lowest m r → m ≡ 0
-lowest_zero m r h k l = mask_zero disks_most m h (λ d g. l.under d (omega arith))
-
-pub lowest_some : (m r : ℕ) → m < 2 ^ disks_most → 0 < m → Lowest m r → r < disks_most
-lowest_some m r h p l = ⊎_elim (λ k. k) (λ k. absurd (omega (arith, lowest_zero m r h k l))) (lt_or_le r disks_most)
-
-pub lowest_has : (m r : ℕ) → m < 2 ^ disks_most → 0 < m → Lowest m r → has m r ≡ true
-lowest_has m r h p l = l.found (lowest_some m r h p l)
+-- none is told of 0 alone
+pub lowest_zero : (m : ℕ) → Lowest m None → m ≡ 0
+lowest_zero m h = h

@@ -2,11 +2,14 @@
 #![tactic(auto)]
 
 ghost use Rattle.std.specs.Prelude.{◌≡◌, not, ◌&&◌, ◌||◌, ℕ, ◌<◌, eqb, ltb};
+ghost use Rattle.std.specs.Iterator.{YieldsFirst, item_count};
 ghost use Rattle.basics.specs.Limits.{disks_most};
 ghost use Rattle.mask.specs.Has.{has};
 ghost use Rattle.mask.specs.Member.{Below};
 ghost use Rattle.mask.specs.Lowest.{Lowest};
 ghost use Rattle.mask.specs.Count.{members};
+ghost use Rattle.mask.specs.Disks.{disks_of};
+ghost use Rattle.mask.specs.Rising.{disks_left};
 
 use basics::DISKS;
 
@@ -38,11 +41,15 @@ pub fn below(n: usize) -> u64
     if n < DISKS { (1 << n) - 1 } else { !0 }
 }
 
-// The lowest disk of m, or DISKS.
-pub fn lowest(m: u64) -> usize
+// The lowest disk of m, if it holds one.
+pub fn lowest(m: u64) -> Option<usize>
     ensures { Lowest m result }
 {
-    u64::trailing_zeros(m) as usize
+    if m == 0 {
+        None
+    } else {
+        Some(u64::trailing_zeros(m) as usize)
+    }
 }
 
 // How many disks are in m.
@@ -92,4 +99,31 @@ pub fn before(d: usize) -> u64
     ensures { (e : ℕ) → has result e ≡ ltb e d }
 {
     (1 << d) - 1
+}
+
+// The disks of a mask that are still to come, the lowest first.
+#[derive(Clone, Copy)]
+pub struct Rising {
+    rest: u64,
+}
+
+impl Iterator for Rising {
+    type Item = usize;
+
+    ghost next_gives = { YieldsFirst disks_left };
+
+    ghost remaining = { item_count disks_left };
+
+    fn next(&mut self) -> Option<usize> {
+        let d = lowest(self.rest)?;
+        self.rest = take(self.rest, d);
+        Some(d)
+    }
+}
+
+// The disks of m one by one, rising.
+pub fn disks(m: u64) -> Rising
+    ensures { disks_left result ≡ disks_of m }
+{
+    Rising { rest: m }
 }

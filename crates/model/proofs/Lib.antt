@@ -1,3 +1,4 @@
+pub mod Numbers
 pub mod Capacity
 pub mod Left
 pub mod Duality

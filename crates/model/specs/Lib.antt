@@ -1,3 +1,4 @@
+pub mod Rule
 pub mod Assignment
 pub mod Capacity
 pub mod Case

@@ -7,15 +7,29 @@ use borrow.Author.Tests.{eq-eqb, ne_eqb, lt-ltb, le-ltb, ltb-true}
 use lib.ListN.{length, take, drop, get_or}
 use lib.Dec.{lit<}
 use native.Mathlib.Nat.{pow-suc, one-le-pow, pow-le-pow_right}
-use Rattle.number.specs.declared.Number.{Number}
+use Rattle.std.specs.Prelude.{Result}
+use Rattle.number.specs.declared.Broken.{Broken}
+use Rattle.std.specs.Prelude.{Option, Some, None}
+use Rattle.std.specs.List.{slice_get}
+use Rattle.std.specs.Option.{unwrap_or}
 use Rattle.number.specs.Told.{told}
 use Rattle.number.specs.Decode.{Decoded, value, refused, under, more, decode}
 use Rattle.basics.proofs.Choice.{pick_true, pick_false, pick_elim}
 use Rattle.basics.proofs.Buffer.{rest}
 
 -- what an answer told
-pub told_is : {f g : Number} {o : Decoded} → told f ≡ o → f ≡ g → o ≡ told g
+pub told_is : {f g : Result (ℕ × ℕ) Broken} {o : Decoded} → told f ≡ o → f ≡ g → o ≡ told g
 told_is h q = sym h ∙ ap told q
+
+-- ---- the first byte of a list, as `first` tells it
+
+pub no_byte : (s : List ℕ) → ◌≡◌ {A = Option ℕ} None (slice_get s 0) → length s ≡ 0
+no_byte [] e = refl
+no_byte (b ∷ s) e = cc
+
+pub first_byte : (s : List ℕ) {b : ℕ} → Some b ≡ slice_get s 0 → (0 < length s) × (get_or s 0 0 ≡ b)
+first_byte [] e = cc
+first_byte (b ∷ s) e = (omega arith, ap (λ (x : Option ℕ). unwrap_or x 0) (sym e))
 
 -- ---- decode, by its first byte
 

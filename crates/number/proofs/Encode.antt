@@ -9,6 +9,8 @@ use lib.Dec.{ltb, leb}
 use lib.ListN.{length, take, drop, set, length-drop, take-append-drop}
 use Rattle.basics.specs.Choice.{pick}
 use Rattle.basics.specs.Buffer.{over}
+use Rattle.std.specs.Prelude.{Option, Some, None}
+use Rattle.std.specs.Option.{unwrap_or}
 use Rattle.number.specs.Encode.{encode_by, encode, width_of, fits, written, put_first, WroteNumber}
 use borrow.Rule.Slice.PartMut.{put_mid}
 use Rattle.basics.proofs.Buffer.{rest, put_rest}
@@ -82,27 +84,33 @@ width_bounds v = width_by 4 v
 
 -- ---- what a write leaves
 
+some_none : {k : ℕ} → ◌≡◌ {A = Option ℕ} (Some k) None → ⊥
+some_none e = cc
+
+some_same : {k m : ℕ} → ◌≡◌ {A = Option ℕ} (Some k) (Some m) → k ≡ m
+some_same e = ap (λ (x : Option ℕ). unwrap_or x 0) e
+
 -- with room the number stands at the start
-pub wrote_room : (v : ℕ) (out : List ℕ) → width_of v ≤ length out → WroteNumber v out (width_of v) (over (encode v) out)
+pub wrote_room : (v : ℕ) (out : List ℕ) → width_of v ≤ length out → WroteNumber v out (Some (width_of v)) (over (encode v) out)
 unfolding written put_first fits
 wrote_room v out h = let t = le-leb _ _ h in record { count = sym (pick_true _ _ t); left = sym (pick_true _ _ t) }
 
 -- without it nothing has changed
-pub wrote_none : (v : ℕ) (out : List ℕ) → length out < width_of v → WroteNumber v out 0 out
+pub wrote_none : (v : ℕ) (out : List ℕ) → length out < width_of v → WroteNumber v out None out
 unfolding written put_first fits
 wrote_none v out h = let t = lt-leb _ _ h in record { count = sym (pick_false _ _ t); left = sym (pick_false _ _ t) }
 
 -- the one or the other
-pub wrote_cases : {C : Type 0} {v n : ℕ} {out after : List ℕ} → WroteNumber v out n after
-    → (width_of v ≤ length out → n ≡ width_of v → after ≡ over (encode v) out → C)
-    → (length out < width_of v → n ≡ 0 → after ≡ out → C) → C
+pub wrote_cases : {C : Type 0} {v : ℕ} {n : Option ℕ} {out after : List ℕ} → WroteNumber v out n after
+    → (width_of v ≤ length out → n ≡ Some (width_of v) → after ≡ over (encode v) out → C)
+    → (length out < width_of v → n ≡ None → after ≡ out → C) → C
 wrote_cases {v = v} {out = out} w f g =
     by_cases (leb (width_of v) (length out))
     (λ t. let h = leb-true _ _ t in let r = wrote_room v out h in f h (w.count ∙ sym r.count) (w.left ∙ sym r.left))
     (λ t. let h = leb-false _ _ t in let r = wrote_none v out h in g h (w.count ∙ sym r.count) (w.left ∙ sym r.left))
 
 -- one byte is the whole number
-pub wrote_one : (v : ℕ) (out : List ℕ) → v < 128 → 0 < length out → WroteNumber v out 1 (set out 0 v)
+pub wrote_one : (v : ℕ) (out : List ℕ) → v < 128 → 0 < length out → WroteNumber v out (Some 1) (set out 0 v)
 unfolding over
 wrote_one v [] h l = absurd (omega arith)
 wrote_one v (b ∷ s) h l =
@@ -111,7 +119,7 @@ wrote_one v (b ∷ s) h l =
 
 -- two bytes are the whole number
 pub wrote_two : (v : ℕ) (out : List ℕ) → 128 ≤ v → v < 128 ^ 2 → 1 < length out
-    → WroteNumber v out 2 (set (set out 0 (v % 128 + 128)) 1 (v / 128))
+    → WroteNumber v out (Some 2) (set (set out 0 (v % 128 + 128)) 1 (v / 128))
 unfolding over
 wrote_two v [] h l p = absurd (omega arith)
 wrote_two v (b ∷ []) h l p = absurd (omega arith)
@@ -123,7 +131,7 @@ wrote_two v (b ∷ c ∷ s) h l p =
     rw (e, w) at r
 
 -- a number of more than one byte has no room in one
-pub wrote_short : (v : ℕ) (out : List ℕ) → 128 ≤ v → v < 2 ^ 32 → length out ≤ 1 → WroteNumber v out 0 out
+pub wrote_short : (v : ℕ) (out : List ℕ) → 128 ≤ v → v < 2 ^ 32 → length out ≤ 1 → WroteNumber v out None out
 wrote_short v out h l p = wrote_none v out (omega (arith, width_more v h l, width_bounds (v / 128)))
 
 -- bytes behind the first
@@ -133,37 +141,38 @@ behind b xs [] h = absurd (omega arith)
 behind b xs (c ∷ s) h = refl
 
 -- a number of more than one byte, where the rest of it was written behind the first
-module _ (v n : ℕ) (out ys : List ℕ) (h : 128 ≤ v) (l : v < 2 ^ 32) (p : 0 < length out)
+module _ (v : ℕ) (n : Option ℕ) (out ys : List ℕ) (h : 128 ≤ v) (l : v < 2 ^ 32) (p : 0 < length out)
     (w : WroteNumber (v / 128) (take (length out - 1) (drop 1 out)) n ys) where
   rest_wrote : WroteNumber (v / 128) (drop 1 out) n ys
   rest_wrote = rw rest at w
 
   -- the rest had no room, so the number has none
-  pub wrote_rest_none : n ≡ 0 → WroteNumber v out 0 (put_mid 1 (length out - 1) out ys)
+  pub wrote_rest_none : n ≡ None → WroteNumber v out None (put_mid 1 (length out - 1) out ys)
   wrote_rest_none z =
       wrote_cases rest_wrote
-      (λ _ e _. absurd (omega (arith, width_bounds (v / 128))))
+      (λ _ e _. absurd (some_none (sym e ∙ z)))
       (λ full _ e.
       let r = wrote_none v out (omega (arith, length-drop 1 out, width_more v h l)) in
       record { count = r.count; left = put_rest out 1 ys ∙ ap (λ (t : List ℕ). take 1 out ++ t) e ∙ take-append-drop 1 out ∙ r.left })
 
   -- the rest stands behind the first byte
-  pub wrote_rest : (n ≡ 0 → ⊥) → WroteNumber v out (n + 1) (set (put_mid 1 (length out - 1) out ys) 0 (v % 128 + 128))
+  pub wrote_rest : {k : ℕ} → n ≡ Some k → WroteNumber v out (Some (k + 1)) (set (put_mid 1 (length out - 1) out ys) 0 (v % 128 + 128))
   wrote_rest z =
       wrote_cases rest_wrote
       (λ room e q.
       let r = wrote_room v out (omega (arith, length-drop 1 out, width_more v h l)) in
       record {
-        count = omega (arith, width_more v h l, r.count);
+        count = ap Some (omega (arith, width_more v h l, some_same (sym z ∙ e))) ∙ r.count;
         left = ap (λ (t : List ℕ). set t 0 (v % 128 + 128)) (put_rest out 1 ys ∙ ap (λ (t : List ℕ). take 1 out ++ t) q)
             ∙ behind _ _ out p ∙ ap (λ (x : List ℕ). over x out) (sym (encode_more v h l)) ∙ r.left;
       })
-      (λ _ e _. absurd (z e))
+      (λ _ e _. absurd (some_none (sym z ∙ e)))
 
 -- five bytes at the most were written
-pub wrote_small : {v : ℕ} {out : List ℕ} {n : ℕ} {after : List ℕ} → WroteNumber v out n after → n ≤ 5
-wrote_small {v} w = wrote_cases w (λ _ e _. omega (arith, width_bounds v)) (λ _ e _. omega arith)
+pub wrote_small : {v : ℕ} {out : List ℕ} {n : Option ℕ} {k : ℕ} {after : List ℕ} → WroteNumber v out n after → n ≡ Some k → k ≤ 5
+wrote_small {v} w q =
+    wrote_cases w (λ _ e _. omega (arith, width_bounds v, some_same (sym q ∙ e))) (λ _ e _. absurd (some_none (sym q ∙ e)))
 
 -- what was written lies within the buffer
-pub wrote_fits : {v : ℕ} {out : List ℕ} {n : ℕ} {after : List ℕ} → WroteNumber v out n after → n ≤ length out
-wrote_fits w = wrote_cases w (λ h e _. omega arith) (λ _ e _. omega arith)
+pub wrote_fits : {v : ℕ} {out : List ℕ} {n : Option ℕ} {after : List ℕ} → WroteNumber v out n after → unwrap_or n 0 ≤ length out
+wrote_fits w = wrote_cases w (λ h e _. rw e h) (λ _ e _. rw e (omega arith))

@@ -1,5 +1,5 @@
 -- A number in its shortest form, and a lent buffer after it was written there.
-use Rattle.std.specs.Prelude.{ℕ, zero, suc, ◌+◌, ◌/◌, ◌%◌, Bool, ◌≡◌, List, [], ◌∷◌, length, ltb, leb}
+use Rattle.std.specs.Prelude.{ℕ, zero, suc, Option, Some, None, ◌+◌, ◌/◌, ◌%◌, Bool, ◌≡◌, List, [], ◌∷◌, length, ltb, leb}
 use Rattle.basics.specs.Choice.{pick}
 use Rattle.basics.specs.Buffer.{over}
 
@@ -20,15 +20,15 @@ width_of v = length (encode v)
 unfoldable pub fits : ℕ → List ℕ → Bool
 fits v out = leb (width_of v) (length out)
 
--- how many bytes are written: none where v has no room
-unfoldable pub written : ℕ → List ℕ → ℕ
-written v out = pick (fits v out) (width_of v) 0
+-- how many bytes are written, if v has room
+unfoldable pub written : ℕ → List ℕ → Option ℕ
+written v out = pick (fits v out) (Some (width_of v)) None
 
 -- the buffer with v at its start, or as it was where v has no room
 unfoldable pub put_first : ℕ → List ℕ → List ℕ
 put_first v out = pick (fits v out) (over (encode v) out) out
 
--- v was written at the start of a buffer: so many bytes, and what the buffer then holds
-pub record WroteNumber (v : ℕ) (out : List ℕ) (n : ℕ) (after : List ℕ) : Type 0 where
+-- v was written at the start of a buffer: so many bytes, or none; and what the buffer then holds
+pub record WroteNumber (v : ℕ) (out : List ℕ) (n : Option ℕ) (after : List ℕ) : Type 0 where
   pub count : n ≡ written v out
   pub left : after ≡ put_first v out

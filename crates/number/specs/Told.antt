@@ -1,10 +1,15 @@
 -- What each answer says, in the paper's numbers.
-use Rattle.number.specs.declared.Number.{Number}
-use Rattle.number.specs.declared.Number.TheVariants.{Value, Ends, Malformed}
+use Rattle.std.specs.Prelude.{ℕ, Result, Ok, Err}
+use Rattle.number.specs.declared.Broken.{Broken}
+use Rattle.number.specs.declared.Broken.TheVariants.{Ends, Malformed}
 use Rattle.number.specs.Decode.{Decoded, value, refused}
 
--- a value with the bytes it used, refusal 1 or refusal 2
-abbrev pub told : Number → Decoded
-told (Value v n) = value v n
-told Ends = refused 1
-told Malformed = refused 2
+-- the refusal's number: 1 where the bytes end, 2 where they are no number
+abbrev pub number_of : Broken → ℕ
+number_of Ends = 1
+number_of Malformed = 2
+
+-- a value with the bytes it used, or the refusal
+abbrev pub told : Result (ℕ × ℕ) Broken → Decoded
+told (Ok (v, n)) = value v n
+told (Err e) = refused (number_of e)

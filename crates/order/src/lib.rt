@@ -1,14 +1,17 @@
 // The first schedule in dictionary order, from any schedule.
 // cut has what is left of each block's copies, room the disks that have room, and the blocks that are not done stand in rings.
+// cut, caps, board, by and dead are lent one by one: some are read, some written; a struct of such loans would be made anew for each call.
 #![tactic(auto)]
 
 ghost use Rattle.std.specs.Prelude.{◌<◌, ◌≤◌, ◌≡◌, get_or, length};
 ghost use Rattle.basics.specs.Limits.{disks_most, blocks_most};
-ghost use Rattle.order.specs.Ordered.{Scheduled, Ordered};
-ghost use Rattle.order.specs.Parts.{Sorting, LowerCopies, Trying, Tried, Spread, Asked, Done};
+ghost use Rattle.order.specs.Ordered.{Ordered};
+ghost use Rattle.order.specs.Parts.{LowerCopies, Spread};
+ghost use Rattle.order.specs.Boards.{Scheduled, Sorting, Trying, Tried, Asked, Done};
 
-use basics::{Capacities, Counts, DISKS, Links, Masks, PLACES, Reaches, Seats, Steps};
-use search::Hit;
+use basics::{Capacities, DISKS, Masks, PLACES, Seats, Steps};
+use places::Board;
+use search::{Hit, Task};
 
 // For each disk, other disks that no block on it can go to.
 type Dead = [u64; DISKS];
@@ -24,33 +27,29 @@ fn try_lower(
     room: u64,
     cut: &mut Masks,
     caps: &Capacities,
-    seats: &mut Seats,
-    counts: &mut Counts,
-    next: &mut Links,
-    prev: &mut Links,
-    out: &mut Reaches,
+    board: &mut Board,
     by: &mut Steps,
 ) -> Hit
-    requires { Trying n q k lower base room cut.old caps.now seats.old counts.old next.old prev.old out.old by.old }
-    ensures { Tried n q k lower room
-        cut.old caps.now seats.old counts.old
-        cut.new seats.new counts.new next.new prev.new out.new
-        by.new result }
+    requires { Trying n q k lower base room cut.old caps.now board.old by.old }
+    ensures { Tried n q k lower room cut.old caps.now board.old cut.new board.new by.new result }
 {
     let whole = cut[k];
     cut[k] = lower;
-    let o = places::shift(k, n, cut, seats, counts, next, prev, out);
-    let hit = search::improve(
-        n, q, k, base, k, room, cut, seats, counts, next, prev, out, by,
-    );
+    let o = board.shift(k, n, cut);
+    let task = Task {
+        n,
+        q,
+        b: k,
+        base,
+        bound: k,
+        room,
+    };
+    let hit = search::improve(task, cut, board, by);
     cut[k] = whole;
-    match hit {
-        Hit::Free(d, steps) => Hit::Free(d, steps),
-        Hit::Stuck(x) => {
-            places::shift(k, o, cut, seats, counts, next, prev, out);
-            Hit::Stuck(x)
-        }
+    if let Hit::Stuck(_) = hit {
+        board.shift(k, o, cut);
     }
+    hit
 }
 
 // The disks of x are dead for the blocks on every other disk.
@@ -58,12 +57,10 @@ fn spread(n: usize, x: u64, dead: &mut Dead)
     requires { (n ≤ disks_most) × (length dead.old ≡ disks_most) }
     ensures { Spread n x dead.old dead.new }
 {
-    let mut d = 0;
-    while d < n {
+    for d in 0..n {
         if !mask::held(x, d) {
             dead[d] = mask::either(dead[d], x);
         }
-        d += 1;
     }
 }
 
@@ -85,29 +82,18 @@ fn lower_once(
     room: u64,
     cut: &mut Masks,
     caps: &Capacities,
-    seats: &mut Seats,
-    counts: &mut Counts,
-    next: &mut Links,
-    prev: &mut Links,
-    out: &mut Reaches,
+    board: &mut Board,
     by: &mut Steps,
     dead: &mut Dead,
 ) -> u64
-    requires { (Sorting n q k room
-        cut.old caps.now seats.old counts.old next.old prev.old out.old by.old dead.old)
-        × (k < q) × (LowerCopies k cut.old seats.old dead.old lower) }
-    ensures { Asked n q k
-        cut.old caps.now seats.old
-        cut.new seats.new counts.new next.new prev.new out.new
-        by.new dead.new result }
+    requires { (Sorting n q k room cut.old caps.now board.old by.old dead.old)
+        × (k < q) × (LowerCopies k cut.old board.old.seats dead.old lower) }
+    ensures { Asked n q k cut.old caps.now board.old cut.new board.new by.new dead.new result }
 {
-    let o = seats[k] as usize;
+    let o = board.seats[k] as usize;
     let freed = mask::put(room, o);
-    let hit = try_lower(
-        n, q, k, lower, dead[o], freed, cut, caps, seats, counts, next, prev, out, by,
-    );
-    match hit {
-        Hit::Free(d, _) => places::reopen(n, d, caps, counts, freed),
+    match try_lower(n, q, k, lower, dead[o], freed, cut, caps, board, by) {
+        Hit::Free(d, _) => board.reopen(n, d, caps, freed),
         Hit::Stuck(x) => {
             spread(n, x, dead);
             room
@@ -124,58 +110,34 @@ fn settle(
     room: u64,
     cut: &mut Masks,
     caps: &Capacities,
-    seats: &mut Seats,
-    counts: &mut Counts,
-    next: &mut Links,
-    prev: &mut Links,
-    out: &mut Reaches,
+    board: &mut Board,
     by: &mut Steps,
     dead: &mut Dead,
 ) -> u64
-    requires { (Sorting n q k room
-        cut.old caps.now seats.old counts.old next.old prev.old out.old by.old dead.old)
-        × (k < q) }
-    ensures { Done n q k
-        cut.old caps.now
-        cut.new seats.new counts.new next.new prev.new out.new
-        by.new dead.new result }
+    requires { (Sorting n q k room cut.old caps.now board.old by.old dead.old) × (k < q) }
+    ensures { Done n q k cut.old caps.now cut.new board.new by.new dead.new result }
 {
     let mut free = room;
-    let mut lower = lower_copies(k, cut, seats, dead);
+    let mut lower = lower_copies(k, cut, &board.seats, dead);
+    // No count tells when: until no lower copy is left to ask for.
     while lower != 0 {
-        free = lower_once(
-            n, q, k, lower, free, cut, caps, seats, counts, next, prev, out, by, dead,
-        );
-        lower = lower_copies(k, cut, seats, dead);
+        free = lower_once(n, q, k, lower, free, cut, caps, board, by, dead);
+        lower = lower_copies(k, cut, &board.seats, dead);
     }
-    cut[k] = mask::only(seats[k] as usize);
-    ring::unlink(k, next, prev);
+    cut[k] = mask::only(board.seats[k] as usize);
+    board.nodes.unlink(k);
     free
 }
 
 // The first schedule; the copies, the rings and out are used up.
-pub fn first(
-    n: usize,
-    q: usize,
-    cut: &mut Masks,
-    caps: &Capacities,
-    seats: &mut Seats,
-    counts: &mut Counts,
-    next: &mut Links,
-    prev: &mut Links,
-    out: &mut Reaches,
-)
-    requires { Scheduled n q cut.old caps.now seats.old counts.old next.old prev.old out.old }
-    ensures { Ordered n q cut.old caps.now seats.new }
+pub fn first(n: usize, q: usize, cut: &mut Masks, caps: &Capacities, board: &mut Board)
+    requires { Scheduled n q cut.old caps.now board.old }
+    ensures { Ordered n q cut.old caps.now board.new.seats }
 {
     let mut dead = [0u64; DISKS];
     let mut by = [0u16; PLACES];
-    let mut free = places::open(n, caps, counts);
-    let mut k = 0;
-    while k < q {
-        free = settle(
-            n, q, k, free, cut, caps, seats, counts, next, prev, out, &mut by, &mut dead,
-        );
-        k += 1;
+    let mut free = board.open(n, caps);
+    for k in 0..q {
+        free = settle(n, q, k, free, cut, caps, board, &mut by, &mut dead);
     }
 }

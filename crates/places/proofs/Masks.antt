@@ -1,18 +1,15 @@
 -- Laws of masks.
 --     Upto               a mask that is made disk by disk
 --     none_free          no disk of a mask has room
-use Prim.Native.Nat.{ℕ, ◌+◌, ◌≤◌, ◌<◌, ◌^◌}
+use Prim.Native.Nat.{ℕ, ◌+◌}
 use mathlib.Core.Path.{◌≡◌, sym, ap, ◌∙◌}
 use mathlib.Core.Bool.{Bool, true, false, ◌&&◌, ◌||◌}
 use native.Mathlib.Omega.{arith}
 use lib.Dec.{eqb, ltb}
 use borrow.Author.Tests.{ltb-true, ltb-false, lt-ltb, le-ltb, eqb-true, eqb-false}
 use Rattle.mask.specs.Has.{has}
-use Rattle.mask.specs.Lowest.{Lowest}
 use Rattle.mask.proofs.Has.{has_zero}
-use Rattle.mask.proofs.Zeros.{lowest_zero}
 use Rattle.basics.proofs.Tests.{by_cases, differ, and_both, first_false, second_false, not_here, same_test}
-use Rattle.basics.specs.Limits.{disks_most}
 
 -- ---- a mask that is made disk by disk
 
@@ -49,9 +46,8 @@ upto_skip p d m u t e =
     ∙ sym (second_false (ltb e (d + 1)) (ap p (eqb-true e d s) ∙ t)))
     (λ s. u e ∙ ap (λ (x : Bool). x && p e) (sym (ltb_other e d (eqb-false e d s))))
 
--- no disk of w has room, where none is the lowest of both
-pub none_free : (w room both d : ℕ) → both < 2 ^ disks_most → ((e : ℕ) → has both e ≡ (has w e && has room e)) → Lowest both d
-    → disks_most ≤ d → (e : ℕ) → has w e ≡ true → has room e ≡ false
-none_free w room both d v f l o e t =
-    not_here (has room e) (λ u.
-    differ (f e ∙ and_both (has w e) (has room e) t u) (ap (λ (y : ℕ). has y e) (lowest_zero both d v o l) ∙ has_zero e))
+-- no disk of w has room, where both hold none
+pub none_free : (w room both : ℕ) → ((e : ℕ) → has both e ≡ (has w e && has room e)) → both ≡ 0
+    → (e : ℕ) → has w e ≡ true → has room e ≡ false
+none_free w room both f z e t =
+    not_here (has room e) (λ u. differ (f e ∙ and_both (has w e) (has room e) t u) (ap (λ (y : ℕ). has y e) z ∙ has_zero e))

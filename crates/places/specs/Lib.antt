@@ -4,3 +4,4 @@ pub mod Among
 pub mod Seats
 pub mod Room
 pub mod Parts
+pub mod Boards

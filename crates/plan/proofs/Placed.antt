@@ -15,24 +15,22 @@ use mathlib.Core.List.{List, [], ◌∷◌}
 use Prim.Native.Nat.{ℕ, ◌+◌, ◌-◌, ◌*◌, ◌≤◌, ◌<◌}
 use native.Mathlib.Omega.{arith}
 use lib.ListN.{length}
+use Rattle.std.specs.Prelude.{Result, Ok, Err}
 use Rattle.basics.specs.Limits.{blocks_most}
 use Rattle.basics.proofs.Choice.{pick_elim}
 use Rattle.number.specs.Bytes.{Bytes}
 use Rattle.field.specs.declared.Fault.{Fault}
 use Rattle.field.specs.declared.Refusal.TheVariants.{NoRoom}
-use Rattle.field.specs.declared.Written.TheVariants.{Refused}
 use Rattle.field.specs.Refusal.{number_of, note_of}
 use Rattle.field.specs.Send.{answer_to, Sent}
 use Rattle.field.specs.Sheet.{Note, Out, got, refused}
 use Rattle.field.proofs.Known.{Answers}
 use Rattle.field.proofs.Sends.{Roomless, sent_enough}
-use Rattle.field.proofs.Unique.{number_injective}
+use Rattle.field.proofs.Unique.{number_injective, not_refused}
 use Rattle.field.proofs.Values.{between_range}
 use Rattle.field.proofs.Within.{Within, within_bind, within_then, within_bounded, within_pure, within_more, within_between, within_opening}
 use Rattle.field.proofs.Within.{within_times, within_ascending, within_whole, place_inside, place_near}
 use Rattle.plan.specs.declared.Head.{Head}
-use Rattle.plan.specs.declared.Answer.{Answer}
-use Rattle.plan.specs.declared.Answer.TheVariants.{Accepted, Refused as Not}
 use Rattle.plan.specs.Plan.{Plan, if_any, time_of, size_of, lists_of, plan_fields, plan_sheet}
 use Rattle.plan.specs.Range.{InRange}
 use Rattle.plan.specs.Receive.{if_room, heads, Received}
@@ -97,7 +95,7 @@ module _ (p : Plan) (e : ℕ) (disks short : List ℕ) where
       (λ m l. let q = same_note h (room_short p e disks short m l) in
       let k : n.place ≡ length p.short = ap (λ (x : Note). x.place) q in
       (ap (λ (x : Note). x.number) q, second m k (omega (arith, k))))
-      (λ k l. absurd (let a : refused n ≡ got p e = sym h ∙ room_both p e disks short k l in let z : ◌≡◌ {A = ℕ} 0 1 = cc in omega arith))
+      (λ k l. absurd (not_refused (sym (room_both p e disks short k l) ∙ h)))
 
   module _ (k : length p.disks ≤ length disks) where
     set_lacks : {n : ℕ} → Lacks p disks short n → (n ≡ length p.short) × (length short < n)
@@ -173,18 +171,16 @@ module _ (unit t : ℕ) (s disks short : List ℕ) where
 
 heads_refused : (o : Out Plan) {n : Note} → refused n ≡ heads o → o ≡ refused n
 unfolding heads
-heads_refused (got p e) h = absurd (let z : ◌≡◌ {A = ℕ} 0 1 = cc in omega arith)
+heads_refused (got p e) h = absurd (not_refused (sym h))
 heads_refused (refused m) h = cc
 
-accepted_by : (bytes : ℕ) (x : Answer) {h : Head} {e : ℕ} → told_plan bytes x ≡ got h e → (k : Head) × (x ≡ Accepted k)
-unfolding told_plan
-accepted_by bytes (Accepted k) q = (k, refl)
-accepted_by bytes (Not f) q = absurd (let z : ◌≡◌ {A = ℕ} 0 1 = cc in omega arith)
+accepted_by : (bytes : ℕ) (x : Result Head Fault) {h : Head} {e : ℕ} → told_plan bytes x ≡ got h e → (k : Head) × (x ≡ Ok k)
+accepted_by bytes (Ok k) q = (k, refl)
+accepted_by bytes (Err f) q = absurd (not_refused (sym q))
 
 module _ (unit t : ℕ) (s : List ℕ) {disks short disks' short' : List ℕ} {f : Fault}
-    (r : Received (plan_sheet unit t s 0) (length s) disks short (Not f) disks' short') where
+    (r : Received (plan_sheet unit t s 0) (length s) disks short (Err f) disks' short') where
   read_refused : if_room (plan_sheet unit t s 0) disks short ≡ refused (note_of f)
-  unfolding told_plan
   read_refused = heads_refused (if_room (plan_sheet unit t s 0) disks short) r.answer
 
   pub read_placed : (f.refusal ≡ NoRoom → ⊥) → f.place ≤ length s
@@ -196,9 +192,10 @@ module _ (unit t : ℕ) (s : List ℕ) {disks short disks' short' : List ℕ} {f
   pub read_wants : f.refusal ≡ NoRoom → Wants (plan_sheet unit t s 0) disks short f.place
   read_wants q = room_wants unit t s disks short read_refused (ap number_of q)
 
-  pub read_enough : Bytes s → f.refusal ≡ NoRoom → {more_disks more-short d m : List ℕ} {x : Answer} → length disks ≤ length more_disks
+  pub read_enough : Bytes s → f.refusal ≡ NoRoom → {more_disks more-short d m : List ℕ} {x : Result Head Fault}
+      → length disks ≤ length more_disks
       → f.place ≤ length more_disks → f.place ≤ length more-short
-      → Received (plan_sheet unit t s 0) (length s) more_disks more-short x d m → (h : Head) × (x ≡ Accepted h)
+      → Received (plan_sheet unit t s 0) (length s) more_disks more-short x d m → (h : Head) × (x ≡ Ok h)
   unfolding heads
   read_enough b q {more_disks} {more-short} {x = x} i j k v =
       accepted_by (length s) x (v.answer ∙ ap heads (room_enough unit t s disks short more_disks more-short b (read_wants q) i j k))
@@ -210,6 +207,6 @@ module _ (unit t : ℕ) (p : Plan) where
   unfolding plan_draft Roomless
   roomless = pick_elim Roomless (counted p) _ _ (λ _. tt) (λ _ z. omega (arith, z))
 
-  pub write_enough : (out out' : List ℕ) (f : Fault) (after : List ℕ) → Sent (plan_draft unit t p) out (Refused f) after
+  pub write_enough : (out out' : List ℕ) (f : Fault) (after : List ℕ) → Sent (plan_draft unit t p) out (Err f) after
       → f.refusal ≡ NoRoom → f.place ≤ length out' → answer_to (plan_draft unit t p) out' ≡ got tt f.place
   write_enough out out' f after w q l = sent_enough (plan_draft unit t p) out out' f after roomless w q l

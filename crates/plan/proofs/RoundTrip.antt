@@ -13,13 +13,11 @@ use Rattle.number.specs.Encode.{encode}
 use Rattle.field.specs.Sheet.{got, ◌>>=◌, pure, times}
 use Rattle.field.specs.Field.{opening, inside, ascending}
 use Rattle.field.specs.Put.{spell_all, opening_bytes}
-use Rattle.field.specs.declared.Written.{Written}
-use Rattle.field.specs.declared.Written.TheVariants.{Length}
-use Rattle.field.specs.Send.{sheet, told_written, answer_to, left_by, Sent}
-use Rattle.field.proofs.Sends.{written_injective}
-use Rattle.basics.proofs.Choice.{pick_true}
+use Rattle.std.specs.Prelude.{Result, Ok}
+use Rattle.field.specs.declared.Fault.{Fault}
+use Rattle.field.specs.Send.{sheet, Sent}
+use Rattle.field.proofs.Sends.{sent_room}
 use Rattle.basics.specs.Buffer.{over}
-use borrow.Author.Tests.{le-leb}
 use Rattle.field.proofs.Sheet.{Step, bind_got, after_got, pure_got}
 use Rattle.field.proofs.Read.{Reads, reads_bind, reads_then, reads_checked, reads_pure, reads_between, reads_whole}
 use Rattle.field.proofs.Spelt.{Spelt, spelt_join, spelt_whole, between_spelt}
@@ -32,13 +30,11 @@ use Rattle.plan.specs.Plan.{Plan, plan_of, if_any, time_of, size_of, lists_of, p
 use Rattle.plan.specs.Range.{InRange}
 use Rattle.plan.specs.Receive.{Received}
 use Rattle.plan.specs.Draft.{plan_bytes, plan_draft}
-use Rattle.plan.specs.Parts.{heading_bytes}
 use Rattle.plan.specs.declared.Head.{Head}
-use Rattle.plan.specs.declared.Answer.TheVariants.{Accepted}
 use Rattle.plan.proofs.Reading.{any_most}
 use Rattle.basics.proofs.Buffer.{over_front}
 use Rattle.plan.proofs.Accepted.{Took, took}
-use Rattle.plan.proofs.Writing.{plan_drafted, sent_all, lists_bytes, bytes_parts}
+use Rattle.plan.proofs.Writing.{plan_drafted, sent_all, heading_bytes, lists_bytes, bytes_parts}
 use Rattle.basics.specs.Limits.{disks_most, blocks_most, time_most}
 
 -- the bytes, field by field
@@ -169,7 +165,7 @@ same_plan r r' ds ds' bs bs' x y z = cc
 
 -- writing what `read` accepted gives the same bytes
 pub write_accepted : (unit t : ℕ) (s : List ℕ) → Bytes s → (disks short disks' short' : List ℕ) (h : Head)
-    → Received (plan_sheet unit t s 0) (length s) disks short (Accepted h) disks' short'
+    → Received (plan_sheet unit t s 0) (length s) disks short (Ok h) disks' short'
     → plan_draft unit t (plan_of h.time (take h.blocks disks') (take h.size short')) ≡ sheet s
 write_accepted unit t s b disks short disks' short' h r =
     let w : Took (plan_sheet unit t s 0) (length s) disks short h disks' short' =
@@ -186,20 +182,16 @@ write_accepted unit t s b disks short disks' short' h r =
 
 -- with room for it, the writer leaves the same bytes
 pub written_accepted : (unit t : ℕ) (s : List ℕ) → Bytes s → (disks short disks' short' : List ℕ) (h : Head)
-    → Received (plan_sheet unit t s 0) (length s) disks short (Accepted h) disks' short'
-    → (out : List ℕ) (r : Written) (after : List ℕ) → length s ≤ length out
+    → Received (plan_sheet unit t s 0) (length s) disks short (Ok h) disks' short'
+    → (out : List ℕ) (r : Result ℕ Fault) (after : List ℕ) → length s ≤ length out
     → Sent (plan_draft unit t (plan_of h.time (take h.blocks disks') (take h.size short'))) out r after
-    → (r ≡ Length (length s)) × (after ≡ over s out)
-unfolding told_written answer_to left_by
+    → (r ≡ Ok (length s)) × (after ≡ over s out)
 written_accepted unit t s b disks short disks' short' h x out r after room w =
-    let d = write_accepted unit t s b disks short disks' short' h x in (
-      written_injective r (Length (length s)) (w.answer ∙ ap (λ z. answer_to z out) d ∙ pick_true _ _ (le-leb _ _ room)),
-      w.held ∙ ap (λ z. left_by z out) d ∙ pick_true _ _ (le-leb _ _ room),
-    )
+    sent_room out r after (write_accepted unit t s b disks short disks' short' h x) room w
 
 -- reading what `write` wrote gives the same values: those of a plan in range, since `write` writes whatever it is given
 pub read_written : (unit t : ℕ) (p : Plan) → unit < 2 ^ 32 → 0 < t → t < 2 ^ 32 → InRange p → (out after : List ℕ) (n : ℕ)
-    → Sent (plan_draft unit t p) out (Length n) after → plan_sheet unit t (take n after) 0 ≡ got p n
+    → Sent (plan_draft unit t p) out (Ok n) after → plan_sheet unit t (take n after) 0 ≡ got p n
 read_written unit t p u l k r out after n w =
     let x : (n ≡ length (plan_bytes unit t p)) × (take n after ≡ plan_bytes unit t p)
     × (n ≤ length out) = sent_all unit t p r out n after w in

@@ -1,84 +1,82 @@
 -- Laws of writing a plan sheet.
---     width_none, width_next, width_all, numbers_bound, width_small, widths_small     the width of numbers, added up
---     numbers_more, numbers_all                    number after number, as a loop
+--     spelt_none, width_more, numbers_bound     the numbers of a list, one after another
+--     width_small, widths_small                    a width that was found is small
 --     lists_bytes, bytes_parts                      the bytes of a sheet, part by part
---     heading_length, heading_small, bytes_length  how many they are
---     draft, many_disks, many_members, long_sent   the draft in each case
---     opening_room, heading_laid                   the fields before the disks
---     heading_room, disks_room, short_room, sheet_sent     where the whole sheet has room, its parts have
+--     heading_length, bytes_length  how many they are
+--     draft, many_disks, many_members, long_sent, laid_sent     the draft in each case
+--     numbers_length               how many the numbers of a sheet take
+--     sheet_lays                   its parts, one behind the other
 --     plan_drafted, sent_all, sent_none            a plan in range that is sent
 use mathlib.Core.Path.{◌≡◌, refl, sym, ap, ◌∙◌, subst}
-use mathlib.Core.List.{List, ◌∷◌, ◌++◌, append_assoc}
+use mathlib.Core.List.{List, [], ◌∷◌, ◌++◌, append_assoc}
 use Prim.Native.Nat.{ℕ, ◌+◌, ◌*◌, ◌≤◌, ◌<◌}
 use native.Mathlib.Omega.{arith}
 use lib.ListN.{length, take, get_or, length-append}
-use lib.Seq.{take_all}
 use Rattle.number.specs.Encode.{encode, width_of}
 use Rattle.number.proofs.Encode.{width_one, width_bounds}
-use Rattle.field.specs.Put.{spell_all, opening_bytes, PutOne, Laid}
+use Rattle.field.specs.Put.{spell_all, opening_bytes, Laid}
+use Rattle.field.specs.Pen.{Puts, Lays}
+use Rattle.field.specs.declared.Pen.{Pen}
 use Rattle.field.proofs.Spell.{spell_append, spell_more, spell_bound}
 use mathlib.Core.Bool.{false}
 use borrow.Author.Tests.{le-leb, lt-leb}
 use lib.Dec.{leb}
 use Rattle.basics.proofs.Choice.{pick_true, pick_false}
 use Rattle.basics.proofs.Tests.{and_both, first_false, second_false}
-use Rattle.field.specs.declared.Written.TheVariants.{Length, Refused}
+use Rattle.std.specs.Prelude.{Result, Ok, Err}
 use Rattle.field.specs.declared.Refusal.TheVariants.{OutOfRange, NoRoom}
 use Rattle.field.specs.Refusal.{fault_at, note_of}
 use Rattle.field.specs.Sheet.{note, unplaced}
 use Rattle.field.specs.Send.{Draft, sheet, none, Sent}
-use Rattle.field.proofs.Puts.{front_room, put_behind, laid_length, laid_join, put_one, spell_room}
+use Rattle.field.proofs.Pens.{lays_one, lays_join, lays_same}
 use Rattle.field.proofs.Opened.{opening_length}
 use Rattle.field.proofs.Sends.{sent_refused, sent_long, sent_fits, sent_bytes, sent_not}
 use Rattle.plan.specs.Plan.{Plan}
 use Rattle.plan.specs.Draft.{plan_numbers, plan_bytes, counted, plan_draft}
-use Rattle.plan.specs.Parts.{heading_bytes}
+use Rattle.plan.specs.Parts.{numbers_of}
 use Rattle.field.specs.declared.Fault.{Fault}
-use Rattle.field.specs.declared.Written.{Written}
 use Rattle.plan.specs.Range.{InRange}
 use Rattle.basics.specs.Limits.{blocks_most}
 
--- the width of numbers: of none, of one more, of all
-pub width_none : (xs : List ℕ) → ◌≡◌ {A = ℕ} 0 (length (spell_all encode (take 0 xs)))
-unfolding spell_all
-width_none xs = refl
+-- ---- number after number of a list, whatever the numbers are spelt from
 
-pub width_next : (xs : List ℕ) (i n : ℕ) → i < length xs → n ≡ length (spell_all encode (take i xs))
-    → n + width_of (get_or xs i 0) ≡ length (spell_all encode (take (i + 1) xs))
-unfolding width_of
-width_next xs i n h e =
-    ap (λ (k : ℕ). k + length (encode (get_or xs i 0))) e
-    ∙ sym (length-append (spell_all encode (take i xs)) (encode (get_or xs i 0))) ∙ ap length (spell_more encode xs i 0 h)
+module _ {A : Type 0} (value : A → ℕ) where
+  -- no number yet
+  pub spelt_none : length (spell_all (λ x. encode (value x)) []) ≡ 0
+  unfolding spell_all
+  spelt_none = refl
 
-pub width_all : (xs : List ℕ) (i n : ℕ) → i ≡ length xs → n ≡ length (spell_all encode (take i xs)) → n ≡ length (spell_all encode xs)
-width_all xs i n h e = e ∙ ap (λ (z : List ℕ). length (spell_all encode z)) (take_all i xs (omega arith))
+  module _ (xs : List A) (i : ℕ) (x : A) (l : i < length xs) (is : x ≡ get_or xs i x) where
+    one_more : spell_all (λ x. encode (value x)) (take i xs) ++ encode (value x) ≡ spell_all (λ x. encode (value x)) (take (i + 1) xs)
+    one_more =
+        ap (λ (y : A). spell_all (λ x. encode (value x)) (take i xs) ++ encode (value y)) is
+        ∙ spell_more (λ x. encode (value x)) xs i x l
 
--- five bytes at the most for each number
-pub numbers_bound : (xs : List ℕ) → length (spell_all encode xs) ≤ 5 * length xs
-unfolding width_of
-numbers_bound xs = spell_bound encode 5 (λ v. (width_bounds v).1) xs
+    -- one more: its width
+    pub width_more : (n : ℕ) → n ≡ length (spell_all (λ x. encode (value x)) (take i xs))
+        → n + width_of (value x) ≡ length (spell_all (λ x. encode (value x)) (take (i + 1) xs))
+    unfolding width_of
+    width_more n e =
+        ap (λ (k : ℕ). k + length (encode (value x))) e
+        ∙ sym (length-append (spell_all (λ x. encode (value x)) (take i xs)) (encode (value x))) ∙ ap length one_more
+
+  -- five bytes at the most for each number
+  pub numbers_bound : (xs : List A) → length (spell_all (λ x. encode (value x)) xs) ≤ 5 * length xs
+  unfolding width_of
+  numbers_bound xs = spell_bound (λ x. encode (value x)) 5 (λ x. (width_bounds (value x)).1) xs
 
 -- a width that was found is small
 pub width_small : (v r : ℕ) → r ≡ width_of v → r ≤ 5
 width_small v r h = omega (arith, width_bounds v)
 
 pub widths_small : (xs : List ℕ) (r : ℕ) → length xs ≤ blocks_most → r ≡ length (spell_all encode xs) → r ≤ 5 * blocks_most
-widths_small xs r l h = omega (arith, numbers_bound xs)
-
--- ---- number after number
-
-module _ (xs : List ℕ) (i : ℕ) {out : List ℕ} {at : ℕ} {mid : List ℕ} {p : ℕ} (w : Laid out at (spell_all encode (take i xs)) mid p) where
-  pub numbers_more : {next : ℕ} {after : List ℕ} → i < length xs → at + length (spell_all encode xs) ≤ length out
-      → PutOne (get_or xs i 0) mid p next after → Laid out at (spell_all encode (take (i + 1) xs)) after next
-  unfolding width_of
-  numbers_more {next} {after} l room f =
-      subst (λ (z : List ℕ). Laid out at z after next) (spell_more encode xs i 0 l)
-      (laid_join w (put_one f (spell_room encode xs i 0 l w room)))
-
-  pub numbers_all : i ≡ length xs → Laid out at (spell_all encode xs) mid p
-  numbers_all e = subst (λ (z : List ℕ). Laid out at (spell_all encode z) mid p) (take_all i xs (omega arith)) w
+widths_small xs r l h = omega (arith, numbers_bound (λ x. x) xs)
 
 -- ---- the bytes, part by part
+
+-- the fields before the disks
+unfoldable pub heading_bytes : ℕ → ℕ → ℕ → ℕ → List ℕ
+heading_bytes unit t q r = (opening_bytes 3 unit t ++ encode q) ++ encode r
 
 -- what stands behind the time
 unfoldable pub lists_bytes : Plan → List ℕ
@@ -105,10 +103,6 @@ heading_length unit t q r =
       width_one 3 (omega arith),
     )
 
-pub heading_small : (unit t q r n : ℕ) → n ≡ length (heading_bytes unit t q r) → n ≤ 21
-heading_small unit t q r n e =
-    omega (arith, heading_length unit t q r, width_bounds unit, width_bounds t, width_bounds q, width_bounds r)
-
 module _ (unit t : ℕ) (p : Plan) where
   pub bytes_length : length (plan_bytes unit t p) ≡ length (heading_bytes unit t (length p.disks) p.time)
       + length (spell_all encode p.disks) + width_of (length p.short) + length (spell_all encode p.short)
@@ -128,67 +122,54 @@ module _ (unit t : ℕ) (p : Plan) where
   draft k l = pick_true (sheet (plan_bytes unit t p)) (none (unplaced 6)) (and_both _ _ (le-leb _ _ k) (le-leb _ _ l))
 
   module _ (out : List ℕ) where
-    none_sent : counted p ≡ false → Sent (plan_draft unit t p) out (Refused (fault_at OutOfRange 0)) out
+    none_sent : counted p ≡ false → Sent (plan_draft unit t p) out (Err (fault_at OutOfRange 0)) out
     unfolding plan_draft
-    none_sent h = subst (λ (d : Draft). Sent d out (Refused (fault_at OutOfRange 0)) out)
+    none_sent h = subst (λ (d : Draft). Sent d out (Err (fault_at OutOfRange 0)) out)
         (sym (pick_false (sheet (plan_bytes unit t p)) (none (unplaced 6)) h)) (sent_refused (fault_at OutOfRange 0) out)
 
     -- too many blocks, or too large a short set
-    pub many_disks : blocks_most < length p.disks → Sent (plan_draft unit t p) out (Refused (fault_at OutOfRange 0)) out
+    pub many_disks : blocks_most < length p.disks → Sent (plan_draft unit t p) out (Err (fault_at OutOfRange 0)) out
     unfolding counted
     many_disks h = none_sent (first_false _ (lt-leb _ _ h))
 
-    pub many_members : blocks_most < length p.short → Sent (plan_draft unit t p) out (Refused (fault_at OutOfRange 0)) out
+    pub many_members : blocks_most < length p.short → Sent (plan_draft unit t p) out (Err (fault_at OutOfRange 0)) out
     unfolding counted
     many_members h = none_sent (second_false (leb (length p.disks) blocks_most) (lt-leb _ _ h))
 
     module _ (k : length p.disks ≤ blocks_most) (l : length p.short ≤ blocks_most) where
       pub long_sent : {n : ℕ} → n ≡ length (plan_bytes unit t p) → length out < n
-          → Sent (plan_draft unit t p) out (Refused (fault_at NoRoom n)) out
+          → Sent (plan_draft unit t p) out (Err (fault_at NoRoom n)) out
       long_sent {n} e h =
-          subst (λ (d : Draft). Sent d out (Refused (fault_at NoRoom n)) out) (sym (draft k l)) (sent_long (plan_bytes unit t p) out e h)
+          subst (λ (d : Draft). Sent d out (Err (fault_at NoRoom n)) out) (sym (draft k l)) (sent_long (plan_bytes unit t p) out e h)
+
+    pub laid_sent : {after : List ℕ} {n : ℕ} → length p.disks ≤ blocks_most → length p.short ≤ blocks_most
+        → Laid out 0 (plan_bytes unit t p) after n → Sent (plan_draft unit t p) out (Ok n) after
+    laid_sent {after} {n} k l w = subst (λ (d : Draft). Sent d out (Ok n) after) (sym (draft k l)) (sent_fits w)
 
 -- ---- part after part
 
--- the fields before the disks
-module _ (unit t q r : ℕ) (out : List ℕ) (room : length (heading_bytes unit t q r) ≤ length out) where
-  four_room : length (opening_bytes 3 unit t ++ encode q) ≤ length out
-  unfolding heading_bytes
-  four_room = front_room (opening_bytes 3 unit t ++ encode q) (encode r) out room
+module _ (hs ds bs : List ℕ) where
+  numbers_spelt : spell_all encode (numbers_of hs ds bs)
+      ≡ spell_all encode hs ++ (spell_all encode ds ++ (encode (length bs) ++ spell_all encode bs))
+  unfolding spell_all
+  numbers_spelt =
+      spell_append encode hs (ds ++ (length bs ∷ bs))
+      ∙ ap (λ (z : List ℕ). spell_all encode hs ++ z) (spell_append encode ds (length bs ∷ bs))
 
-  pub opening_room : length (opening_bytes 3 unit t) ≤ length out
-  opening_room = front_room (opening_bytes 3 unit t) (encode q) out four_room
+  pub numbers_length : length (spell_all encode (numbers_of hs ds bs))
+      ≡ length (spell_all encode hs) + length (spell_all encode ds) + width_of (length bs) + length (spell_all encode bs)
+  unfolding width_of
+  numbers_length =
+      ap length numbers_spelt ∙ omega (
+        arith,
+        length-append (spell_all encode hs) (spell_all encode ds ++ (encode (length bs) ++ spell_all encode bs)),
+        length-append (spell_all encode ds) (encode (length bs) ++ spell_all encode bs),
+        length-append (encode (length bs)) (spell_all encode bs),
+      )
 
-  pub heading_laid : {x y z : List ℕ} {a b c : ℕ} → Laid out 0 (opening_bytes 3 unit t) x a → PutOne q x a b y → PutOne r y b c z
-      → Laid out 0 (heading_bytes unit t q r) z c
-  unfolding heading_bytes
-  heading_laid w f g = put_behind (put_behind w f four_room) g room
-
--- where the whole sheet has room, its parts have
-module _ (unit t : ℕ) (p : Plan) (out : List ℕ) (room : length (plan_bytes unit t p) ≤ length out) where
-  pub heading_room : length (heading_bytes unit t (length p.disks) p.time) ≤ length out
-  heading_room = omega (arith, bytes_length unit t p)
-
-  module _ {x : List ℕ} {a : ℕ} (w : Laid out 0 (heading_bytes unit t (length p.disks) p.time) x a) where
-    pub disks_room : a + length (spell_all encode p.disks) ≤ length x
-    disks_room = omega (arith, bytes_length unit t p, w.place, laid_length w)
-
-    module _ {y z : List ℕ} {b c : ℕ} (d : Laid x a (spell_all encode p.disks) y b) (f : PutOne (length p.short) y b c z) where
-      size_put : Laid y b (encode (length p.short)) z c
-      size_put = put_one f (omega (arith, bytes_length unit t p, w.place, laid_length w, d.place, laid_length d))
-
-      pub short_room : c + length (spell_all encode p.short) ≤ length z
-      unfolding width_of
-      short_room =
-          omega (arith, bytes_length unit t p, w.place, laid_length w, d.place, laid_length d, size_put.place, laid_length size_put)
-
-      pub sheet_sent : {after : List ℕ} {n : ℕ} → length p.disks ≤ blocks_most → length p.short ≤ blocks_most
-          → Laid z c (spell_all encode p.short) after n → Sent (plan_draft unit t p) out (Length n) after
-      unfolding lists_bytes
-      sheet_sent {after} {n} k l g =
-          let all : Laid out 0 (plan_bytes unit t p) after n =
-          subst (λ (bs : List ℕ). Laid out 0 bs after n) (bytes_parts unit t p) (laid_join w (laid_join d (laid_join size_put g))) in
-          subst (λ (x : Draft). Sent x out (Length n) after) (sym (draft unit t p k l)) (sent_fits all)
+  pub sheet_lays : {first a b c last : Pen} → Lays (spell_all encode hs) first a → Lays (spell_all encode ds) a b
+      → Puts (length bs) b c → Lays (spell_all encode bs) c last → Lays (spell_all encode (numbers_of hs ds bs)) first last
+  sheet_lays w d f g = lays_same (sym numbers_spelt) (lays_join w (lays_join d (lays_join (lays_one f) g)))
 
 -- ---- a plan in range
 
@@ -197,13 +178,14 @@ module _ (unit t : ℕ) (p : Plan) (r : InRange p) where
   plan_drafted = draft unit t p r.few (omega (arith, r.few, r.size_to))
 
   module _ (out : List ℕ) where
-    sheet_of : (x : Written) (after : List ℕ) → Sent (plan_draft unit t p) out x after → Sent (sheet (plan_bytes unit t p)) out x after
+    sheet_of : (x : Result ℕ Fault) (after : List ℕ) → Sent (plan_draft unit t p) out x after
+        → Sent (sheet (plan_bytes unit t p)) out x after
     sheet_of x after w = subst (λ (d : Draft). Sent d out x after) plan_drafted w
 
-    pub sent_all : (n : ℕ) (after : List ℕ) → Sent (plan_draft unit t p) out (Length n) after → (n ≡ length (plan_bytes unit t p))
+    pub sent_all : (n : ℕ) (after : List ℕ) → Sent (plan_draft unit t p) out (Ok n) after → (n ≡ length (plan_bytes unit t p))
         × (take n after ≡ plan_bytes unit t p) × (n ≤ length out)
-    sent_all n after w = sent_bytes (plan_bytes unit t p) out n after (sheet_of (Length n) after w)
+    sent_all n after w = sent_bytes (plan_bytes unit t p) out n after (sheet_of (Ok n) after w)
 
-    pub sent_none : (e : Fault) (after : List ℕ) → Sent (plan_draft unit t p) out (Refused e) after
+    pub sent_none : (e : Fault) (after : List ℕ) → Sent (plan_draft unit t p) out (Err e) after
         → (length out < length (plan_bytes unit t p)) × (note_of e ≡ note 11 (length (plan_bytes unit t p)))
-    sent_none e after w = sent_not (plan_bytes unit t p) out e after (sheet_of (Refused e) after w)
+    sent_none e after w = sent_not (plan_bytes unit t p) out e after (sheet_of (Err e) after w)

@@ -3,25 +3,21 @@
 --     ReadInto      a list was read into the start of a buffer
 --     Framed      where a plan's lists stand on its sheet
 --     Checked     a sheet was read to its end
---     heading_bytes     the bytes of the fields before the disks
-use Rattle.std.specs.Prelude.{ℕ, ◌-◌, ◌≤◌, ◌≡◌, List, ◌++◌, length}
+--     numbers_of     the numbers of a sheet
+use Rattle.std.specs.Prelude.{ℕ, ◌-◌, ◌≤◌, ◌≡◌, List, ◌∷◌, ◌++◌, length, Result, Ok, Err}
 use Rattle.basics.specs.Limits.{blocks_most}
 use Rattle.basics.specs.Buffer.{over}
-use Rattle.number.specs.Encode.{encode}
-use Rattle.field.specs.Put.{opening_bytes}
-use Rattle.field.specs.declared.Field.{Field}
+use Rattle.field.specs.declared.Fault.{Fault}
 use Rattle.field.specs.Sheet.{Out, got, refused, times}
 use Rattle.field.specs.Field.{ascending}
-use Rattle.field.specs.Told.{told}
+use Rattle.field.specs.Send.{told_written}
 use Rattle.field.specs.Refusal.{note_of}
 use Rattle.plan.specs.declared.Frame.{Frame}
-use Rattle.plan.specs.declared.Found.{Found}
-use Rattle.plan.specs.declared.Found.TheVariants.{Whole, Refused}
 use Rattle.plan.specs.Plan.{Plan, disk}
 
--- a reader of lists, as a reader of a field that answers 0
-unfoldable pub ended : Out (List ℕ) → Out ℕ
-ended (got xs e) = got 0 e
+-- where a reader of lists ended
+unfoldable pub ended : Out (List ℕ) → Out Unit
+ended (got xs e) = got tt e
 ended (refused n) = refused n
 
 -- a list that was accepted stands at the buffer's start
@@ -30,8 +26,8 @@ Holds (got xs e) out after = after ≡ over xs out
 Holds (refused n) out after = Unit
 
 -- a list was read: the answer, and the buffer afterwards
-pub record ReadInto (list : Out (List ℕ)) (out : List ℕ) (r : Field) (after : List ℕ) : Type 0 where
-  pub answer : told r ≡ ended list
+pub record ReadInto (list : Out (List ℕ)) (out : List ℕ) (r : Result ℕ Fault) (after : List ℕ) : Type 0 where
+  pub answer : told_written r ≡ ended list
   pub held : Holds list out after
 
 -- a plan's counts and time, and the places at which its two lists are read
@@ -46,10 +42,10 @@ pub record Framed (s : List ℕ) (p : Plan) (f : Frame) : Type 0 where
   pub short : ascending f.size 0 (f.blocks - 1) s f.short ≡ got p.short short_end
 
 -- the plan that a sheet says and its frame, or why the sheet is refused
-unfoldable pub Checked : List ℕ → Out Plan → Found → Type 0
-Checked s sheet (Whole f) = (p : Plan) × (e : ℕ) × (sheet ≡ got p e) × Framed s p f
-Checked s sheet (Refused e) = sheet ≡ refused (note_of e)
+abbrev pub Checked : List ℕ → Out Plan → Result Frame Fault → Type 0
+Checked s sheet (Ok f) = (p : Plan) × (e : ℕ) × (sheet ≡ got p e) × Framed s p f
+Checked s sheet (Err e) = sheet ≡ refused (note_of e)
 
--- the bytes of the fields before the disks
-unfoldable pub heading_bytes : ℕ → ℕ → ℕ → ℕ → List ℕ
-heading_bytes unit t q r = (opening_bytes 3 unit t ++ encode q) ++ encode r
+-- the numbers of a sheet: the fields before the disks, the disks, and the short set behind its size
+abbrev pub numbers_of : List ℕ → List ℕ → List ℕ → List ℕ
+numbers_of heading disks short = heading ++ (disks ++ (length short ∷ short))

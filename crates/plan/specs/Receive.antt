@@ -3,12 +3,12 @@
 --     heads         what is answered
 --     disks_left, short_left     the lent lists afterwards
 --     Received      the three together
-use Rattle.std.specs.Prelude.{ℕ, ◌≡◌, List, length, leb}
+use Rattle.std.specs.Prelude.{ℕ, ◌≡◌, List, Result, length, leb}
 use Rattle.basics.specs.Choice.{pick}
 use Rattle.basics.specs.Buffer.{over}
 use Rattle.field.specs.Sheet.{Out, got, refused, note}
 use Rattle.plan.specs.declared.Head.{Head}
-use Rattle.plan.specs.declared.Answer.{Answer}
+use Rattle.field.specs.declared.Fault.{Fault}
 use Rattle.plan.specs.Plan.{Plan}
 use Rattle.plan.specs.Told.{told_plan}
 
@@ -36,7 +36,7 @@ short_left (got p e) list = over p.short list
 short_left (refused n) list = list
 
 -- what the sheet says, for lists that held these entries: the answer, and what the lists then hold
-pub record Received (sheet : Out Plan) (bytes : ℕ) (disks short : List ℕ) (r : Answer) (disks' short' : List ℕ) : Type 0 where
+pub record Received (sheet : Out Plan) (bytes : ℕ) (disks short : List ℕ) (r : Result Head Fault) (disks' short' : List ℕ) : Type 0 where
   pub answer : told_plan bytes r ≡ heads (if_room sheet disks short)
   pub blocks : disks' ≡ disks_left (if_room sheet disks short) disks
   pub members : short' ≡ short_left (if_room sheet disks short) short

@@ -7,9 +7,9 @@ use Prim.Native.Nat.{ℕ, ◌≤◌, ◌<◌}
 use native.Mathlib.Omega.{arith}
 use lib.ListN.{length, take}
 use Rattle.field.specs.declared.Fault.{Fault}
-use Rattle.field.specs.declared.Written.TheVariants.{Length, Refused}
+use Rattle.std.specs.Prelude.{Ok, Err}
 use Rattle.field.specs.Refusal.{note_of}
-use Rattle.field.specs.Send.{told_written, answer_to, Sent}
+use Rattle.field.specs.Send.{answer_to, Sent}
 use Rattle.field.specs.Sheet.{Note, note, Out, got, refused}
 use Rattle.model.specs.Case.{Case}
 use Rattle.plan.specs.Draft.{plan_bytes}
@@ -41,25 +41,25 @@ pub data Unsent (number tenancy : ℕ) (o : Out Case) (out : List ℕ) (e : Faul
       → Unsent number tenancy o out e
 
 module _ {number tenancy : ℕ} {o : Out Case} {out after : List ℕ} where
-  sheet_of : {n : ℕ} (x : Out Plan) → Plans o x → Sent (draft_of number tenancy x) out (Length n) after
+  sheet_of : {n : ℕ} (x : Out Plan) → Plans o x → Sent (draft_of number tenancy x) out (Ok n) after
       → Sheeted number tenancy o out n after
-  unfolding draft_of told_written answer_to
+  unfolding draft_of answer_to
   sheet_of {n} (refused m) w s = absurd (let a : got tt n ≡ refused m = s.answer in let z : ◌≡◌ {A = ℕ} 0 1 = cc in omega arith)
   sheet_of {n} (got p e) w s =
       let r : InRange p = plans_range o p e w in
       let k = sent_all number tenancy p r out n after s in
       record { plan = p; end = e; plans = w; range = r; long = k.0; bytes = k.1; within = k.2 }
 
-  pub answered_sheet : {n : ℕ} → Answered number tenancy o out (Length n) after → Sheeted number tenancy o out n after
+  pub answered_sheet : {n : ℕ} → Answered number tenancy o out (Ok n) after → Sheeted number tenancy o out n after
   answered_sheet a = sheet_of a.plan a.plans a.sent
 
-  none_of : {e : Fault} (x : Out Plan) → Plans o x → Sent (draft_of number tenancy x) out (Refused e) after → Unsent number tenancy o out e
-  unfolding draft_of told_written answer_to
+  none_of : {e : Fault} (x : Out Plan) → Plans o x → Sent (draft_of number tenancy x) out (Err e) after → Unsent number tenancy o out e
+  unfolding draft_of answer_to
   none_of {e} (refused m) w s =
       let k : refused (note_of e) ≡ refused m = s.answer in
       let i : m ≡ note_of e = cc in
       denied (subst (λ (j : Note). Plans o (refused j)) i w)
   none_of {e} (got p i) w s = let k = sent_none number tenancy p (plans_range o p i w) out e after s in longer p i w k.0 k.1
 
-  pub answered_none : {e : Fault} → Answered number tenancy o out (Refused e) after → Unsent number tenancy o out e
+  pub answered_none : {e : Fault} → Answered number tenancy o out (Err e) after → Unsent number tenancy o out e
   answered_none a = none_of a.plan a.plans a.sent

@@ -5,17 +5,16 @@
 --     kept_case          the case that those spell is the case of copies in use
 use mathlib.Core.Path.{◌≡◌, refl, sym, ap, ap₂, ◌∙◌, subst, fun_ext}
 use mathlib.Core.Bool.{Bool, false, not, ◌&&◌, ◌||◌}
-use mathlib.Core.List.{List}
-use Prim.Native.Nat.{ℕ, ◌+◌, ◌≤◌, ◌<◌}
+use mathlib.Core.List.{List, ◌++◌}
+use Prim.Native.Nat.{ℕ, ◌+◌, ◌-◌, ◌≤◌, ◌<◌}
 use native.Mathlib.Omega.{arith}
 use borrow.Author.Count.{below_more}
 use borrow.Author.Tests.{eq-eqb, ne_eqb}
 use lib.Dec.{eqb}
-use lib.ListN.{length, get_or, set, take, length-set, get_or-eq_default}
-use lib.Seq.{get_or-set_same, get_or-set_other, get_or-take, length-take-le, ext_get_or}
+use lib.ListN.{length, get_or, set, take, drop, replicate, length-set, get_or-eq_default}
+use lib.Seq.{get_or-set_same, get_or-set_other}
 use Rattle.basics.specs.Limits.{disks_most, blocks_most}
 use Rattle.basics.specs.Padded.{pad_to}
-use Rattle.basics.proofs.Padded.{pad_length, pad_at}
 use Rattle.basics.proofs.Tests.{below_or}
 use Rattle.mask.specs.Has.{has}
 use Rattle.mask.proofs.Has.{has_zero}
@@ -92,37 +91,29 @@ pub kept_done : {i q out : ℕ} {copies after : List ℕ} → i ≤ q → q ≤ 
 kept_done {i} {q} {out} {copies} {after} l k w = let e : i ≡ q = omega arith in subst (λ (j : ℕ). Kept j out copies after) e w
 
 -- copies up to Q, and 0 behind them
-module _ {q out : ℕ} {copies after : List ℕ} (count : length (take q copies) ≡ q) (whole : copies ≡ pad_to 0 blocks_most (take q copies))
-    (few : q ≤ blocks_most) (w : Kept q out copies after) where
-  long : length after ≡ blocks_most
-  long = w.long ∙ ap length whole ∙ pad_length 0 blocks_most (take q copies) (omega (arith, count))
+module _ (q : ℕ) (copies : List ℕ) {out : ℕ} {kept : List ℕ} (count : length (take q copies) ≡ q)
+    (beyond : drop q copies ≡ replicate (blocks_most - q) 0)
+    (w : Kept (length (take q copies)) out (take q copies) kept) where
+  pub kept_count : length kept ≡ q
+  kept_count = w.long ∙ count
 
-  pub kept_count : length (take q after) ≡ q
-  kept_count = length-take-le q after (omega (arith, long))
+  pub kept_whole : kept ++ drop q copies ≡ pad_to 0 blocks_most kept
+  unfolding pad_to
+  kept_whole = ap (λ (xs : List ℕ). kept ++ xs) (beyond ∙ ap (λ (k : ℕ). replicate (blocks_most - k) 0) (sym kept_count))
 
-  behind : (xs : List ℕ) → length (take q xs) ≡ q → (b : ℕ) → q ≤ b → get_or (take q xs) b 0 ≡ 0
-  behind xs e b l = get_or-eq_default (take q xs) 0 {n = b} (omega (arith, e))
-
-  pub kept_whole : after ≡ pad_to 0 blocks_most (take q after)
-  kept_whole =
-      ext_get_or 0 after _ (long ∙ sym (pad_length 0 blocks_most (take q after) (omega (arith, kept_count)))) λ b _.
-      below_or b q (λ l. sym (get_or-take q after b 0 l))
-      (λ l.
-      w.beyond b l ∙ ap (λ (xs : List ℕ). get_or xs b 0) whole ∙ pad_at 0 blocks_most (take q copies) b ∙ behind copies count b l
-      ∙ sym (behind after kept_count b l))
-      ∙ sym (pad_at 0 blocks_most (take q after) b)
-
-  kept_copy : (b d : ℕ) → has (get_or (take q after) b 0) d ≡ (has (get_or (take q copies) b 0) d && not (has out d))
+  kept_copy : (b d : ℕ) → has (get_or kept b 0) d ≡ (has (get_or (take q copies) b 0) d && not (has out d))
   kept_copy b d =
       below_or b q
-      (λ l. rw (get_or-take q after b 0 l, get_or-take q copies b 0 l) (w.used b d l))
-      (λ l. rw (behind after kept_count b l, behind copies count b l, has_zero d) refl)
+      (λ l. w.used b d (omega (arith, count)))
+      (λ l.
+      let z : get_or kept b 0 ≡ 0 = get_or-eq_default kept 0 {n = b} (omega (arith, kept_count)) in
+      let y : get_or (take q copies) b 0 ≡ 0 = get_or-eq_default (take q copies) 0 {n = b} (omega (arith, count)) in
+      rw (z, y, has_zero d) refl)
 
   pub kept_case : (costs starts : List ℕ) {f : ℕ → Bool} → ((d : ℕ) → has out d ≡ f d)
-      → spelled (take q after) costs starts ≡ in_use f (spelled (take q copies) costs starts)
+      → spelled kept costs starts ≡ in_use f (spelled (take q copies) costs starts)
   unfolding in_use
   kept_case costs starts {f} h =
       let on : ℕ → (ℕ → ℕ → Bool) → Case =
       λ n c. record { disks = length costs; blocks = n; start = λ d. get_or starts d 0; cost = λ d. get_or costs d 0; copy = c } in
-      ap₂ on (kept_count ∙ sym count)
-      (fun_ext λ b. fun_ext λ d. kept_copy b d ∙ ap (λ (x : Bool). has (get_or (take q copies) b 0) d && not x) (h d))
+      ap₂ on w.long (fun_ext λ b. fun_ext λ d. kept_copy b d ∙ ap (λ (x : Bool). has (get_or (take q copies) b 0) d && not x) (h d))

@@ -5,8 +5,7 @@ use Prim.Native.Nat.{ℕ, ◌≤◌}
 use lib.ListN.{length}
 use Rattle.field.specs.declared.Fault.{Fault}
 use Rattle.field.specs.declared.Refusal.TheVariants.{NoRoom}
-use Rattle.field.specs.declared.Written.{Written}
-use Rattle.field.specs.declared.Written.TheVariants.{Refused}
+use Rattle.std.specs.Prelude.{Result, Err}
 use Rattle.field.specs.Send.{told_written, answer_to}
 use Rattle.field.specs.Sheet.{Out, got, refused}
 use Rattle.field.proofs.Known.{Answers}
@@ -38,8 +37,8 @@ module _ (number tenancy : ℕ) (t : Table) (s : List ℕ) where
       subst (λ (y : Out Plan). Roomless (draft_of number tenancy y)) (sym w.2) (roomless number tenancy w.0)
   roomless_of (refused n) x h w = subst (λ (y : Out Plan). Roomless (draft_of number tenancy y)) (sym w) h.1
 
-  pub answered_enough : {out out' after after' : List ℕ} {f : Fault} {w : Written}
-      → Answered number tenancy (asked number tenancy t s) out (Refused f) after → f.refusal ≡ NoRoom
+  pub answered_enough : {out out' after after' : List ℕ} {f : Fault} {w : Result ℕ Fault}
+      → Answered number tenancy (asked number tenancy t s) out (Err f) after → f.refusal ≡ NoRoom
       → Answered number tenancy (asked number tenancy t s) out' w after' → f.place ≤ length out' → told_written w ≡ got tt f.place
   answered_enough {out} {out'} {after} {f = f} a q b l =
       let e : b.plan ≡ a.plan = plans_unique (asked number tenancy t s) b.plans a.plans in

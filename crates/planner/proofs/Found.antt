@@ -81,6 +81,8 @@ module _ {copies costs starts disks short : List ℕ} {r : Found} (w : Solvable 
       subst (λ (a : ℕ → ℕ). Optimal (spelled copies costs starts) r.time a (listed (take r.size short))) (fun_ext cut_disk)
       h.plan
 
-  pub found_plan : PlanFor (spelled copies costs starts) (cut_to (length copies) disks short r)
+  pub found_plan : {q : ℕ} → length copies ≡ q → PlanFor (spelled copies costs starts) (cut_to q disks short r)
   unfolding cut_to
-  found_plan = plan_for w.plannable _ count_blocks (omega (arith, count_short, h.set.few)) h.set.rises optimal
+  found_plan e =
+      subst (λ (k : ℕ). PlanFor (spelled copies costs starts) (cut_to k disks short r)) e
+      (plan_for w.plannable _ count_blocks (omega (arith, count_short, h.set.few)) h.set.rises optimal)

@@ -11,7 +11,9 @@ use borrow.Author.Tests.{le-leb}
 use lib.ListN.{length, take}
 use Rattle.basics.specs.Limits.{blocks_most}
 use Rattle.basics.proofs.Choice.{pick_true}
-use Rattle.field.specs.declared.Written.TheVariants.{Length}
+use Rattle.std.specs.Prelude.{Result, Ok, Err}
+use Rattle.field.specs.declared.Fault.{Fault}
+use Rattle.field.proofs.Unique.{not_refused}
 use Rattle.field.specs.Sheet.{Out, got}
 use Rattle.field.proofs.Opened.{opening_tenancy}
 use Rattle.model.specs.Case.{Case}
@@ -20,8 +22,6 @@ use Rattle.settings.specs.declared.Table.{Table}
 use Rattle.settings.specs.Table.{Proper}
 use Rattle.request.specs.Request.{kinds, Said, request_sheet}
 use Rattle.request.proofs.Reading.{sheet_got}
-use Rattle.plan.specs.declared.Answer.{Answer}
-use Rattle.plan.specs.declared.Answer.TheVariants.{Accepted, Refused}
 use Rattle.plan.specs.declared.Head.{Head}
 use Rattle.plan.specs.Plan.{Plan, plan_sheet}
 use Rattle.plan.specs.Receive.{if_room, heads, disks_left, short_left, Received}
@@ -35,14 +35,13 @@ use Rattle.planner.proofs.Plannable.{asked_got, asked_plannable}
 
 -- ---- the plan reader
 
-accepted_head : (bytes : ℕ) (a : Answer) (h : Head) → told_plan bytes a ≡ got h bytes → a ≡ Accepted h
-unfolding told_plan
-accepted_head bytes (Accepted x) h e = cc
-accepted_head bytes (Refused r) h e = absurd (let z : ◌≡◌ {A = ℕ} 0 1 = cc in omega arith)
+accepted_head : (bytes : ℕ) (a : Result Head Fault) (h : Head) → told_plan bytes a ≡ got h bytes → a ≡ Ok h
+accepted_head bytes (Ok x) h e = cc
+accepted_head bytes (Err r) h e = absurd (not_refused (sym e))
 
-module _ {o : Out Plan} {bytes : ℕ} {disks short disks' short' : List ℕ} {a : Answer} where
+module _ {o : Out Plan} {bytes : ℕ} {disks short disks' short' : List ℕ} {a : Result Head Fault} where
   pub received_plan : (p : Plan) → o ≡ got p bytes → length p.disks ≤ length disks → length p.short ≤ length short
-      → Received o bytes disks short a disks' short' → (h : Head) × (a ≡ Accepted h) × (handed h disks' short' ≡ p)
+      → Received o bytes disks short a disks' short' → (h : Head) × (a ≡ Ok h) × (handed h disks' short' ≡ p)
   unfolding if_room heads disks_left short_left
   received_plan p e l k r =
       let h : Head = record { blocks = length p.disks; time = p.time; size = length p.short } in
@@ -65,7 +64,7 @@ request_tenancy number tenancy n out s r e h =
 
 module _ (number tenancy : ℕ) {t : Table} (s : List ℕ) (w : Proper t) (i : number < 2 ^ 32) (j : tenancy < 2 ^ 32)
     {m : Case} {e : ℕ} (g : asked number tenancy t s ≡ got m e) {out after : List ℕ} {n : ℕ}
-    (a : Answered number tenancy (asked number tenancy t s) out (Length n) after) where
+    (a : Answered number tenancy (asked number tenancy t s) out (Ok n) after) where
   pub answered_read : (p : Plan) × PlanFor m p × (plan_sheet number tenancy (take n after) 0 ≡ got p n)
   unfolding Plans draft_of
   answered_read =
@@ -82,9 +81,10 @@ module _ (number tenancy : ℕ) {t : Table} (s : List ℕ) (w : Proper t) (i : n
       let d = plan_for_greatest (asked_plannable w number tenancy s g) r.1 l in
       (r.0, r.2, d.0, d.1)
 
-  pub answered_received : {disks short disks' short' : List ℕ} {x : Answer} → blocks_most ≤ length disks → blocks_most ≤ length short
+  pub answered_received : {disks short disks' short' : List ℕ} {x : Result Head Fault} → blocks_most ≤ length disks
+      → blocks_most ≤ length short
       → Received (plan_sheet number tenancy (take n after) 0) n disks short x disks' short'
-      → (h : Head) × (x ≡ Accepted h) × PlanFor m (handed h disks' short')
+      → (h : Head) × (x ≡ Ok h) × PlanFor m (handed h disks' short')
   answered_received l k r =
       let p = answered_read in
       let q = p.1.range in

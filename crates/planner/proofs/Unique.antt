@@ -15,15 +15,18 @@ use Rattle.mask.specs.Has.{has}
 use Rattle.mask.proofs.Has.{has_ext}
 use Rattle.model.specs.Case.{Case}
 use Rattle.engine.specs.Spelled.{spelled}
-use Rattle.field.specs.declared.Written.{Written}
+use Rattle.std.specs.Prelude.{Result, Ok, Err}
+use Rattle.field.specs.declared.Fault.{Fault}
+use Rattle.field.specs.Refusal.{note_of}
 use Rattle.field.specs.Send.{Sent}
-use Rattle.field.specs.Sheet.{Out}
+use Rattle.field.specs.Sheet.{Out, got, refused}
 use Rattle.field.proofs.Sends.{sent_unique}
-use Rattle.request.proofs.Unique.{told_injective}
+use Rattle.field.proofs.Unique.{note_injective, not_refused}
 use Rattle.plan.specs.Plan.{Plan}
 use Rattle.planner.specs.declared.Spelling.{Spelling}
 use Rattle.planner.specs.Answered.{draft_of, Answered}
-use Rattle.planner.specs.Lists.{Asks}
+use Rattle.planner.specs.Lists.{Spells, Asks}
+use Rattle.planner.specs.Parts.{case_lent}
 use Rattle.planner.proofs.Plans.{plans_unique}
 
 -- a number is below its power of two
@@ -45,28 +48,36 @@ module _ {copies costs starts copies' costs' starts' : List ℕ} (l : length sta
         ext_get_or 0 starts starts' (l ∙ n ∙ sym l') (λ d _. ap (λ (m : Case). m.start d) e),
       )
 
-same_asked : (r r' : Spelling) → r.answer ≡ r'.answer → r.disks ≡ r'.disks → r.copies ≡ r'.copies → r.costs ≡ r'.costs
+same_spelling : (r r' : Spelling) → r.blocks ≡ r'.blocks → r.disks ≡ r'.disks → r.copies ≡ r'.copies → r.costs ≡ r'.costs
     → r.starts ≡ r'.starts → r ≡ r'
-same_asked r r' a n c k s =
-    ap {B = Spelling} (λ x. record { answer = x; disks = r.disks; copies = r.copies; costs = r.costs; starts = r.starts }) a
-    ∙ ap {B = Spelling} (λ x. record { answer = r'.answer; disks = x; copies = r.copies; costs = r.costs; starts = r.starts }) n
-    ∙ ap {B = Spelling} (λ x. record { answer = r'.answer; disks = r'.disks; copies = x; costs = r.costs; starts = r.starts }) c
-    ∙ ap {B = Spelling} (λ x. record { answer = r'.answer; disks = r'.disks; copies = r'.copies; costs = x; starts = r.starts }) k
-    ∙ ap {B = Spelling} (λ x. record { answer = r'.answer; disks = r'.disks; copies = r'.copies; costs = r'.costs; starts = x }) s
+same_spelling r r' b n c k s =
+    ap {B = Spelling} (λ x. record { blocks = x; disks = r.disks; copies = r.copies; costs = r.costs; starts = r.starts }) b
+    ∙ ap {B = Spelling} (λ x. record { blocks = r'.blocks; disks = x; copies = r.copies; costs = r.costs; starts = r.starts }) n
+    ∙ ap {B = Spelling} (λ x. record { blocks = r'.blocks; disks = r'.disks; copies = x; costs = r.costs; starts = r.starts }) c
+    ∙ ap {B = Spelling} (λ x. record { blocks = r'.blocks; disks = r'.disks; copies = r'.copies; costs = x; starts = r.starts }) k
+    ∙ ap {B = Spelling} (λ x. record { blocks = r'.blocks; disks = r'.disks; copies = r'.copies; costs = r'.costs; starts = x }) s
 
-pub ask_unique : {o : Out Case} {bytes : ℕ} {r r' : Spelling} → Asks o bytes r → Asks o bytes r' → r ≡ r'
-ask_unique {o} {bytes} {r} {r'} a b =
-    let v = a.lists in
-    let w = b.lists in
-    let same = spelled_injective v.starts_long w.starts_long (v.case ∙ sym w.case) in
-    same_asked r r'
-    (told_injective bytes r.answer r'.answer (a.answer ∙ sym b.answer))
-    (v.disks ∙ sym w.disks)
+same_lists : {m m' : Case} {r r' : Spelling} → m ≡ m' → Spells m r → Spells m' r' → r ≡ r'
+same_lists {r = r} {r' = r'} e v w =
+    let same = spelled_injective v.starts_long w.starts_long (v.case ∙ e ∙ sym w.case) in
+    same_spelling r r'
+    (v.blocks ∙ ap (λ (m : Case). m.blocks) e ∙ sym w.blocks)
+    (v.disks ∙ ap (λ (m : Case). m.disks) e ∙ sym w.disks)
     (v.copies_held ∙ ap (pad_to 0 blocks_most) same.0 ∙ sym w.copies_held)
     (v.costs_held ∙ ap (pad_to 0 disks_most) same.1 ∙ sym w.costs_held)
     (v.starts_held ∙ ap (pad_to 0 disks_most) same.2 ∙ sym w.starts_held)
 
-pub plan_into_unique : {number tenancy : ℕ} {o : Out Case} {out : List ℕ} {a b : Written} {x y : List ℕ}
+pub ask_unique : {o : Out Case} {bytes : ℕ} {r r' : Result Spelling Fault} → Asks o bytes r → Asks o bytes r' → r ≡ r'
+ask_unique {r = Ok x} {r' = Ok y} a b =
+    let h : got (case_lent x) _ ≡ got (case_lent y) _ = a.told ∙ sym b.told in
+    let e : case_lent x ≡ case_lent y = cc in ap Ok (same_lists e a.lists b.lists)
+ask_unique {r = Ok x} {r' = Err f} a b = absurd (not_refused (a.told ∙ sym b.told))
+ask_unique {r = Err e} {r' = Ok y} a b = absurd (not_refused (b.told ∙ sym a.told))
+ask_unique {r = Err e} {r' = Err f} a b =
+    let h : refused (note_of e) ≡ refused (note_of f) = a.told ∙ sym b.told in
+    let n : note_of e ≡ note_of f = cc in ap Err (note_injective e f n)
+
+pub plan_into_unique : {number tenancy : ℕ} {o : Out Case} {out : List ℕ} {a b : Result ℕ Fault} {x y : List ℕ}
     → Answered number tenancy o out a x → Answered number tenancy o out b y → (a ≡ b) × (x ≡ y)
 plan_into_unique {number} {tenancy} {o} {out} {a} {b} {x} {y} v w =
     let same : w.plan ≡ v.plan = plans_unique o w.plans v.plans in

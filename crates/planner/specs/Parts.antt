@@ -4,14 +4,14 @@
 --     Lent, case_lent     the lists of what was asked, cut to Q and N; the case that they spell
 --     Solvable, Solved   lists that spell a case within the limits; the sheet of its plan was sent
 --     cut_to              the values that the engine found, cut to Q blocks
-use Rattle.std.specs.Prelude.{ℕ, ◌≤◌, ◌<◌, not, ◌&&◌, ◌≡◌, List, map, length, take, get_or}
+use Rattle.std.specs.Prelude.{ℕ, ◌≤◌, ◌<◌, not, ◌&&◌, ◌≡◌, List, Result, map, length, take, get_or}
 use Rattle.mask.specs.Has.{has}
 use Rattle.basics.specs.Padded.{pad_to}
 use Rattle.basics.specs.Limits.{disks_most}
 use Rattle.model.specs.Case.{Case}
 use Rattle.engine.specs.declared.Found.{Found}
 use Rattle.engine.specs.Spelled.{spelled}
-use Rattle.field.specs.declared.Written.{Written}
+use Rattle.field.specs.declared.Fault.{Fault}
 use Rattle.field.specs.Send.{Sent}
 use Rattle.settings.specs.declared.Table.{Table}
 use Rattle.settings.specs.Table.{disk_rows, costs}
@@ -34,15 +34,15 @@ pub record Solvable (copies costs starts : List ℕ) : Type 0 where
   pub starts_long : length starts ≡ length costs
   pub plannable : Plannable (spelled copies costs starts)
 
-abbrev pub Lent : Spelling → ℕ → Type 0
-Lent r q =
-    (q ≤ length r.copies) × (r.disks ≤ length r.costs) × (r.disks ≤ length r.starts)
-    × Solvable (take q r.copies) (take r.disks r.costs) (take r.disks r.starts)
+abbrev pub Lent : Spelling → Type 0
+Lent r =
+    (r.blocks ≤ length r.copies) × (r.disks ≤ length r.costs) × (r.disks ≤ length r.starts)
+    × Solvable (take r.blocks r.copies) (take r.disks r.costs) (take r.disks r.starts)
 
-abbrev pub case_lent : Spelling → ℕ → Case
-case_lent r q = spelled (take q r.copies) (take r.disks r.costs) (take r.disks r.starts)
+abbrev pub case_lent : Spelling → Case
+case_lent r = spelled (take r.blocks r.copies) (take r.disks r.costs) (take r.disks r.starts)
 
-pub record Solved (number tenancy : ℕ) (m : Case) (out : List ℕ) (w : Written) (after : List ℕ) : Type 0 where
+pub record Solved (number tenancy : ℕ) (m : Case) (out : List ℕ) (w : Result ℕ Fault) (after : List ℕ) : Type 0 where
   pub plan : Plan
   pub is : PlanFor m plan
   pub sent : Sent (plan_draft number tenancy plan) out w after

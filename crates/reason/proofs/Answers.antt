@@ -73,7 +73,7 @@ module _ {copies costs starts : List ℕ} {b d : ℕ} (g : Spellable copies cost
         m : Case
         m = spelled copies costs starts
 
-        kept_time : LeastTime (kept (spelled copies costs starts) (entry disks) b b d) v
+        kept_time : LeastTime (kept (spelled copies costs starts) (entry disks) b d) v
         kept_time = subst (λ (x : Case). LeastTime x v) (kept_spelled g hb hd f k) w.least
 
         same : t ≡ r.time

@@ -83,14 +83,14 @@ module _ {copies costs starts : List ℕ} (g : Spellable copies costs starts) {b
         get_or-eq_default (take (length copies) masks') 0 x ∙ sym (get_or-eq_default (take (length copies) masks) 0 y))
 
     kept_copy : (i e : ℕ) → has (get_or (take (length copies) masks') i 0) e
-        ≡ (kept (spelled copies costs starts) (entry disks) b b d).copy i e
+        ≡ (kept (spelled copies costs starts) (entry disks) b d).copy i e
     unfolding kept
     kept_copy i e = by_cases (ltb i b)
         (λ t. let l = ltb-true i b t in
         ap (λ (x : ℕ). has x e) (get_or-take (length copies) masks' i 0 (omega arith)) ∙ k.earlier i e l ∙ sym (pick_true _ _ t))
         (λ t. ap (λ (x : ℕ). has x e) (others i (ltb-false i b t)) ∙ forced_copy i e ∙ sym (pick_false _ _ t))
 
-    pub kept_spelled : spelled (take (length copies) masks') costs starts ≡ kept (spelled copies costs starts) (entry disks) b b d
+    pub kept_spelled : spelled (take (length copies) masks') costs starts ≡ kept (spelled copies costs starts) (entry disks) b d
     unfolding kept with_copies
     kept_spelled =
         ap₂ (with_copies costs starts) (long masks' (k.long ∙ f.long)) (fun_ext (λ i. fun_ext (λ e. kept_copy i e)))

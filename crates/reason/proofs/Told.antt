@@ -70,7 +70,7 @@ module _ (m : Case) (a : ℕ → ℕ) (b d : ℕ) (h : b < m.blocks) (c : m.copy
     could_forced k = omega (arith, forced_from, f.lower k.0 (forced_out k.0 k.1.0 k.2), same_time k.0, k.1.1)
 
   -- the same for the kept case
-  kept_in : (x : ℕ → ℕ) → Schedule m a → Schedule (kept m a b b d) x → Schedule (forced m b d) x × Agree b x a
+  kept_in : (x : ℕ → ℕ) → Schedule m a → Schedule (kept m a b d) x → Schedule (forced m b d) x × Agree b x a
   unfolding Schedule Valid kept forced Agree
   kept_in x g v = (
     λ i l. (
@@ -83,7 +83,7 @@ module _ (m : Case) (a : ℕ → ℕ) (b d : ℕ) (h : b < m.blocks) (c : m.copy
     λ i l. eqb-true (x i) (a i) (sym (pick_true _ _ (lt-ltb i b l)) ∙ (v i (omega arith)).1),
   )
 
-  kept_out : (x : ℕ → ℕ) → Schedule (forced m b d) x → Agree b x a → Schedule (kept m a b b d) x
+  kept_out : (x : ℕ → ℕ) → Schedule (forced m b d) x → Agree b x a → Schedule (kept m a b d) x
   unfolding Schedule Valid kept Agree forced
   kept_out x v g i l = (
     (v i l).0,
@@ -92,11 +92,11 @@ module _ (m : Case) (a : ℕ → ℕ) (b d : ℕ) (h : b < m.blocks) (c : m.copy
         (λ t. pick_false _ _ t ∙ (v i l).1),
   )
 
-  kept_time : (x : ℕ → ℕ) → response (kept m a b b d) x ≡ response m x
+  kept_time : (x : ℕ → ℕ) → response (kept m a b d) x ≡ response m x
   unfolding response end_of kept
   kept_time x = refl
 
-  module _ (R K : ℕ) (l : LeastTime m R) (g : Schedule m a) (f : LeastTime (kept m a b b d) K) where
+  module _ (R K : ℕ) (l : LeastTime m R) (g : Schedule m a) (f : LeastTime (kept m a b d) K) where
     pub kept_from : R ≤ K
     kept_from =
         let v = kept_in f.reached.0 g f.reached.1 in
@@ -140,7 +140,7 @@ module _ (m : Case) (R : ℕ) (a : ℕ → ℕ) (S : ℕ → Bool) (p : Optimal 
       (λ t. absurd (w.1 (forced_could m a b d h w.0 R T p.least w.2
       (omega (arith, ltb-false R T t, forced_from m a b d h w.0 R T p.least w.2)))))
 
-  pub told_not_kept : (T K : ℕ) → m.copy b d ≡ true → LeastTime (forced m b d) T → T ≡ R → LeastTime (kept m a b b d) K
+  pub told_not_kept : (T K : ℕ) → m.copy b d ≡ true → LeastTime (forced m b d) T → T ≡ R → LeastTime (kept m a b d) K
       → R < K → Why m R a b d NotKept
   unfolding Why
   told_not_kept T K c f e k l = (
@@ -148,7 +148,7 @@ module _ (m : Case) (R : ℕ) (a : ℕ → ℕ) (S : ℕ → Bool) (p : Optimal 
     λ w. omega (arith, keeps_kept m a b d h c R K p.least plan_schedule k w),
   )
 
-  pub told_lower : (K : ℕ) → m.copy b d ≡ true → LeastTime (kept m a b b d) K → K ≡ R → (a b ≡ d → ⊥) → Why m R a b d Lower
+  pub told_lower : (K : ℕ) → m.copy b d ≡ true → LeastTime (kept m a b d) K → K ≡ R → (a b ≡ d → ⊥) → Why m R a b d Lower
   unfolding Why
   told_lower K c k e n =
       let w : Keeps m R a b d = kept_keeps m a b d h c R K p.least plan_schedule k e in
@@ -166,10 +166,10 @@ module _ (m : Case) (R : ℕ) (a : ℕ → ℕ) (S : ℕ → Bool) (p : Optimal 
         (λ t. let s = held i k in (s.0, s.1, pick_false _ _ t ∙ s.2))) in
         (f.0, f.3.least)
 
-    kept_least : m.copy b d ≡ true → (K : ℕ) × LeastTime (kept m a b b d) K
+    kept_least : m.copy b d ≡ true → (K : ℕ) × LeastTime (kept m a b d) K
     unfolding Priced Held kept forced Schedule Valid
     kept_least c =
-        let f = plan_exists (kept m a b b d) price (λ i k. by_cases (ltb i b)
+        let f = plan_exists (kept m a b d) price (λ i k. by_cases (ltb i b)
         (λ t. (a i, (plan_schedule i k).0, pick_true _ _ t ∙ eq-eqb (a i) (a i) refl))
         (λ t. by_cases (eqb i b)
         (λ u. (d, l, pick_false _ _ t ∙ pick_true _ _ u ∙ eq-eqb d d refl))

@@ -1,6 +1,6 @@
 -- What the private functions promise, and by what the third reason is told from the fourth.
 --     Forced, Kept     an array of copies, those of one block cut to one disk; those of the earlier blocks cut to a schedule's disks
---     kept     the forced case, with the copies of each block below k cut to the plan's choice for it
+--     kept     the forced case, with the copies of each block before b cut to the plan's choice for it
 use Rattle.std.specs.Prelude.{ℕ, ◌≤◌, ◌<◌, ◌≡◌, List, eqb, ltb, length, get_or}
 use Rattle.basics.specs.Limits.{blocks_most}
 use Rattle.basics.specs.Choice.{pick}
@@ -8,14 +8,14 @@ use Rattle.mask.specs.Has.{has}
 use Rattle.model.specs.Case.{Case}
 use Rattle.reason.specs.Reason.{forced}
 
-unfoldable pub kept : Case → (ℕ → ℕ) → ℕ → ℕ → ℕ → Case
-kept m a k b d =
+unfoldable pub kept : Case → (ℕ → ℕ) → ℕ → ℕ → Case
+kept m a b d =
     record {
       disks = m.disks;
       blocks = m.blocks;
       start = m.start;
       cost = m.cost;
-      copy = λ i e. pick (ltb i k) (eqb e (a i)) ((forced m b d).copy i e);
+      copy = λ i e. pick (ltb i b) (eqb e (a i)) ((forced m b d).copy i e);
     }
 
 pub record Forced (copies : List ℕ) (b d : ℕ) (masks : List ℕ) : Type 0 where

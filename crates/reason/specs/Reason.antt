@@ -4,6 +4,7 @@
 --     Keeps      one that keeps the plan's choices for the earlier blocks does
 --     Why        what each of the five reasons says, the second with the least time if the block were forced there
 --     Reasons    a reason that is true of the plan of a case
+--     numbered, timed     the reason's number, 1 to 5, and its time, 0 but for the second
 use Rattle.std.specs.Prelude.{ℕ, ◌<◌, ◌≡◌, Bool, true, false, eqb}
 use Rattle.basics.specs.Choice.{pick}
 use Rattle.model.specs.Case.{Case, HasTime}
@@ -49,3 +50,17 @@ pub record Reasons (m : Case) (b d : ℕ) (r : Reason) : Type 0 where
   pub set : ℕ → Bool
   pub plan : Optimal m time schedule set
   pub why : Why m time schedule b d r
+
+abbrev pub numbered : Reason → ℕ
+numbered NoCopy = 1
+numbered (Later t) = 2
+numbered NotKept = 3
+numbered Lower = 4
+numbered Chosen = 5
+
+abbrev pub timed : Reason → ℕ
+timed NoCopy = 0
+timed (Later t) = t
+timed NotKept = 0
+timed Lower = 0
+timed Chosen = 0

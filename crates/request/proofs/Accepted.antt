@@ -5,7 +5,7 @@
 --     Accepts, accepted                          what is known of the kind, the age and the copies that are handed out
 --     accepted_at, accepted_used                 the same of one block
 --     refused_sheet                              what a refusal says of the sheet
-use mathlib.Core.Path.{◌≡◌, sym, ap, ◌∙◌, subst}
+use mathlib.Core.Path.{◌≡◌, refl, sym, ap, ◌∙◌, subst}
 use mathlib.Core.Bool.{Bool}
 use mathlib.Core.Logic.{◌⊎◌}
 use mathlib.Core.List.{List}
@@ -25,16 +25,18 @@ use Rattle.field.specs.declared.Fault.{Fault}
 use Rattle.field.specs.Refusal.{note_of}
 use Rattle.field.specs.Sheet.{Note, Out, got, refused, Parser}
 use Rattle.basics.proofs.Lists.{all_at}
+use Rattle.field.proofs.Unique.{not_refused}
 use Rattle.field.proofs.Opened.{opening_kind, opening_spelt}
 use Rattle.field.proofs.Spelt.{Spelt, spelt_none, number_spelt}
 use Rattle.field.proofs.Values.{ascending_rises, times_all}
 use Rattle.basics.specs.Lists.{All, Rises}
-use Rattle.request.specs.declared.Answer.TheVariants.{Accepted, Refused}
+use Rattle.std.specs.Prelude.{Ok, Err}
 use Rattle.request.specs.declared.Request.{Request}
-use Rattle.request.specs.Disks.{mask_of, disks_of}
+use Rattle.request.specs.Disks.{mask_of}
+use Rattle.mask.specs.Disks.{disks_of}
 use Rattle.request.specs.Draft.{age_bytes}
 use Rattle.request.specs.Request.{kinds, Said, last_disk, used, block, age, request_sheet}
-use Rattle.request.specs.Told.{told_answer, counted, kind_in, age_in, copies_of, Told}
+use Rattle.request.specs.Told.{request_of, handed, Told}
 use Rattle.request.proofs.Aged.{kind_either, age_held, age_empty}
 use Rattle.request.proofs.Disks.{disks_mask, mask_under}
 use Rattle.request.proofs.Used.{InUse, used_some}
@@ -143,37 +145,37 @@ pub record Accepts (unit t n : ℕ) (out : ℕ → Bool) (s : List ℕ) (q kind 
   pub beyond : drop q copies ≡ replicate (blocks_most - q) 0
 
 -- by cases on what the definition says
-counted_got : (o : Out Said) (len q : ℕ) → got q len ≡ counted o → (r : Said) × (o ≡ got r len) × (length r.copies ≡ q)
-unfolding counted
-counted_got (got r e) len q h = (r, cc, cc)
-counted_got (refused n) len q h = absurd (let z : ◌≡◌ {A = ℕ} 0 1 = cc in omega arith)
+handed_got : (o : Out Said) (len : ℕ) (q : Request) → got q len ≡ handed o → (r : Said) × (o ≡ got r len) × (q ≡ request_of r)
+handed_got (got r e) len q h = (r, cc, cc)
+handed_got (refused n) len q h = absurd (not_refused h)
 
-counted_refused : (o : Out Said) (n : Note) → refused n ≡ counted o → o ≡ refused n
-unfolding counted
-counted_refused (got r e) n h = absurd (let z : ◌≡◌ {A = ℕ} 0 1 = cc in omega arith)
-counted_refused (refused m) n h = cc
+handed_refused : (o : Out Said) (n : Note) → refused n ≡ handed o → o ≡ refused n
+handed_refused (got r e) n h = absurd (not_refused (sym h))
+handed_refused (refused m) n h = cc
 
-pub accepted : (unit t n : ℕ) (out : ℕ → Bool) (s : List ℕ) (q : ℕ) (r : Request) → n ≤ disks_most
-    → Told (length s) (request_sheet unit t n out s 0) r → r.answer ≡ Accepted q → Accepts unit t n out s q r.kind r.age r.copies
-unfolding told_answer kind_in age_in copies_of
-accepted unit t n out s q r l a h =
-    let w : (x : Said) × (request_sheet unit t n out s 0 ≡ got x (length s))
-    × (length x.copies ≡ q) = counted_got (request_sheet unit t n out s 0) (length s) q (sym (ap (told_answer (length s)) h) ∙ a.told) in
-    let ms : List ℕ = w.0.copies in
-    let c : r.copies ≡ pad_to 0 blocks_most ms = a.held ∙ ap copies_of w.1 in
-    let front : take q r.copies ≡ ms = ap (take q) c ∙ pad_front 0 blocks_most ms q w.2 in
-    let k : r.kind ≡ w.0.kind = a.kind ∙ ap kind_in w.1 in
-    let g : r.age ≡ w.0.age = a.age ∙ ap age_in w.1 in
-    let b = sheet_blocks unit t n out s w.0 (length s) l w.1 in
-    record {
-      sheet = rw (k, g, front) w.1;
-      known = b.0;
-      small = omega (arith, b.1, w.2);
-      count = ap length front ∙ w.2;
-      blocks = subst (All (Sendable n)) (sym front) b.2;
-      used = subst (All (InUse out)) (sym front) b.3;
-      beyond = ap (drop q) c ∙ pad_rest 0 blocks_most ms q w.2;
-    }
+module _ (unit t n : ℕ) (out : ℕ → Bool) (s : List ℕ) where
+  accepts : n ≤ disks_most → (r : Said) → request_sheet unit t n out s 0 ≡ got r (length s)
+      → Accepts unit t n out s (length r.copies) r.kind r.age (pad_to 0 blocks_most r.copies)
+  accepts l r h =
+      let ms : List ℕ = r.copies in
+      let front : take (length ms) (pad_to 0 blocks_most ms) ≡ ms = pad_front 0 blocks_most ms (length ms) refl in
+      let b = sheet_blocks unit t n out s r (length s) l h in
+      record {
+        sheet = h ∙ ap (λ (x : List ℕ). got (said r.kind r.age x) (length s)) (sym front);
+        known = b.0;
+        small = b.1;
+        count = ap length front;
+        blocks = subst (All (Sendable n)) (sym front) b.2;
+        used = subst (All (InUse out)) (sym front) b.3;
+        beyond = pad_rest 0 blocks_most ms (length ms) refl;
+      }
+
+  pub accepted : (r : Request) → n ≤ disks_most → Told (length s) (request_sheet unit t n out s 0) (Ok r)
+      → Accepts unit t n out s r.blocks r.kind r.age r.copies
+  accepted r l a =
+      let w : (x : Said) × (request_sheet unit t n out s 0 ≡ got x (length s)) × (r ≡ request_of x) =
+      handed_got (request_sheet unit t n out s 0) (length s) r a in
+      subst (λ (q : Request). Accepts unit t n out s q.blocks q.kind q.age q.copies) (sym w.2) (accepts l w.0 w.1)
 
 module _ {unit t n : ℕ} {out : ℕ → Bool} {s : List ℕ} {q kind age : ℕ} {copies : List ℕ} (a : Accepts unit t n out s q kind age copies)
     (i : ℕ) (l : i < q) where
@@ -188,6 +190,5 @@ module _ {unit t n : ℕ} {out : ℕ → Bool} {s : List ℕ} {q kind age : ℕ}
   pub accepted_used : InUse out (get_or copies i 0)
   accepted_used = each (InUse out) a.used
 
-pub refused_sheet : (len : ℕ) (o : Out Said) (r : Request) (e : Fault) → Told len o r → r.answer ≡ Refused e → o ≡ refused (note_of e)
-unfolding told_answer
-refused_sheet len o r e a h = counted_refused o (note_of e) (sym (ap (told_answer len) h) ∙ a.told)
+pub refused_sheet : (len : ℕ) (o : Out Said) (e : Fault) → Told len o (Err e) → o ≡ refused (note_of e)
+refused_sheet len o e a = handed_refused o (note_of e) a

@@ -1,13 +1,12 @@
 -- Laws of the kinds of requests, and of the age, which kind 4 alone has.
---     kind_either, kind_listed, kind_other, kind_small     the kinds are 2 and 4, each of one byte
---     aged_none, aged_zero, aged_other, aged_two           kind 2 has age 0, kind 4 any
+--     kind_either, kind_listed, kind_tried, kind_other, kind_small     the kinds are 2 and 4, each of one byte
+--     aged_none, aged_zero, aged_other, aged_tried, aged_two           kind 2 has age 0, kind 4 any
 --     age_held, age_empty, age_bound                       the age's bytes
---     age_put, age_left                                    they were put; there are none
-use mathlib.Core.Path.{◌≡◌, sym, ap, subst}
+use mathlib.Core.Path.{◌≡◌, sym, ap}
 use mathlib.Core.Bool.{true, false, not}
 use mathlib.Core.Logic.{◌⊎◌, inl, inr, ⊎_elim}
 use mathlib.Core.List.{List, [], ◌∷◌}
-use Prim.Native.Nat.{ℕ, ◌+◌, ◌≤◌, ◌<◌}
+use Prim.Native.Nat.{ℕ, ◌≤◌, ◌<◌}
 use native.Mathlib.Omega.{arith}
 use borrow.Author.Tests.{eq-eqb, ne_eqb, lt-ltb, le-ltb, eqb-true, ltb-true, ltb-false}
 use lib.Dec.{eqb, ltb}
@@ -18,8 +17,6 @@ use Rattle.basics.proofs.Lists.{listed_one}
 use Rattle.basics.proofs.Tests.{by_cases, differ, not_here, or_elim, first_false, second_false}
 use Rattle.number.specs.Encode.{encode, width_of}
 use Rattle.number.proofs.Encode.{width_bounds}
-use Rattle.field.specs.Put.{PutOne, Laid}
-use Rattle.field.proofs.Puts.{laid_none, put_one}
 use Rattle.request.specs.Draft.{age_bytes, aged}
 use Rattle.request.specs.Request.{kinds}
 
@@ -33,6 +30,10 @@ module _ (k : ℕ) where
   pub kind_listed : (k ≡ 2) ⊎ (k ≡ 4) → listed kinds k ≡ true
   unfolding listed
   kind_listed h = ⊎_elim (λ e. rw e) (λ e. rw e) h
+
+  -- as tests find it
+  pub kind_tried : ((k ≡ 2 → ⊥) × (k ≡ 4)) ⊎ (k ≡ 2) → listed kinds k ≡ true
+  kind_tried h = kind_listed (⊎_elim (λ e. inr e.1) (λ e. inl e) h)
 
   pub kind_other : (k ≡ 2 → ⊥) → (k ≡ 4 → ⊥) → listed kinds k ≡ false
   kind_other f g = not_here (listed kinds k) (λ h. ⊎_elim f g (kind_either h))
@@ -55,6 +56,10 @@ module _ (k a : ℕ) where
   unfolding aged
   aged_other f = ap not (first_false (ltb 0 a) (ne_eqb k 2 f))
 
+  -- as tests find it
+  pub aged_tried : ((k ≡ 2) × (a ≤ 0)) ⊎ (k ≡ 2 → ⊥) → aged k a ≡ true
+  aged_tried h = ⊎_elim (λ e. aged_zero e.1) (λ f. aged_other f) h
+
   pub aged_two : aged k a ≡ true → k ≡ 2 → a ≡ 0
   aged_two h e =
       by_cases (ltb 0 a) (λ t. absurd (differ h (aged_none e (ltb-true 0 a t)))) (λ f. omega (arith, ltb-false 0 a f))
@@ -71,13 +76,3 @@ module _ (k a : ℕ) where
   pub age_bound : length (age_bytes k a) ≤ 5
   unfolding age_bytes width_of
   age_bound = pick_elim (λ (bs : List ℕ). length bs ≤ 5) _ _ _ (λ _. omega (arith, width_bounds a)) (λ _. omega arith)
-
-  module _ {out : List ℕ} {at : ℕ} (room : at + length (age_bytes k a) ≤ length out) where
-    pub age_put : {next : ℕ} {after : List ℕ} → k ≡ 4 → PutOne a out at next after → Laid out at (age_bytes k a) after next
-    unfolding width_of
-    age_put {next} {after} e f =
-        subst (λ (bs : List ℕ). Laid out at bs after next) (sym (age_held e)) (put_one f (omega (arith, ap length (age_held e))))
-
-    pub age_left : (k ≡ 4 → ⊥) → Laid out at (age_bytes k a) out at
-    age_left f =
-        subst (λ (bs : List ℕ). Laid out at bs out at) (sym (age_empty f)) (laid_none out at (omega arith))

@@ -1,32 +1,30 @@
 -- Disks to a number of copies and back.
 --     has_plus, lt_up, plus_lt, put_sum      a disk above all others put in adds its power of two
 --     mask_append, mask_disks, mask_all      the number of a number's disks is that number
---     disks_enough, disks_same               places where no disk is; numbers with the same disks
+--     disks_same                             numbers with the same disks
 --     disks_plus, disks_mask                 the disks of the number of a rising list are that list
 --     mask_under                             the number of a rising list has no bit above its last
 --     disks_rise                             the disks of a number rise
---     disks_zero, disks_lowest               0 has no disk; the lowest disk of a number, then those of the number without it
 use mathlib.Core.Path.{◌≡◌, sym, ap, ◌∙◌, refl, ap₂, subst}
-use mathlib.Core.Bool.{Bool, ◌||◌, or-false, true, false, not, ◌&&◌}
-use Prim.Native.Nat.{ℕ, zero, suc, ◌+◌, ◌/◌, ◌%◌, ◌^◌, ◌≤◌, ◌<◌, ◌-◌, ◌*◌}
-use native.Mathlib.Nat.{pow-suc, mod-lt, mod-one, mod-eq_of_lt, zero-add, eq-or-lt_of_le}
+use mathlib.Core.Bool.{Bool, ◌||◌, or-false, true}
+use Prim.Native.Nat.{ℕ, zero, suc, ◌+◌, ◌/◌, ◌%◌, ◌^◌, ◌≤◌, ◌<◌, ◌*◌}
+use native.Mathlib.Nat.{pow-suc, mod-lt, mod-one, mod-eq_of_lt, zero-add}
 use native.Mathlib.Omega.{arith}
 use lib.Dec.{eqb, eqb-zero-suc, eqb-suc-suc}
 use lib.Arith.{lt-one}
 use lib.Pow.{pow_mono, mod-pow-add}
 use Rattle.mask.specs.Has.{has}
-use Rattle.mask.proofs.Has.{has_first, has_half, has_zero, has_ext, has_above}
+use Rattle.mask.proofs.Has.{has_first, has_half, has_zero, has_ext}
 use Rattle.mask.proofs.Bits.{has_pow}
-use mathlib.Core.Logic.{◌⊎◌, inl, inr}
+use Rattle.mask.proofs.Listed.{disks_up}
 use mathlib.Core.List.{List, [], ◌∷◌, ◌++◌, append_assoc, append-nil}
 use borrow.Author.Tests.{eq-eqb, ne_eqb, eqb-true, eqb-false}
 use Rattle.basics.specs.Choice.{pick}
 use Rattle.basics.proofs.Choice.{pick_true, pick_false}
 use Rattle.basics.proofs.Tests.{by_cases}
-use Rattle.mask.specs.Lowest.{Lowest}
-use Rattle.mask.proofs.Zeros.{lowest_some, lowest_has}
 use Rattle.basics.specs.Lists.{All, Rises}
-use Rattle.request.specs.Disks.{mask_of, disks_below, disks_of}
+use Rattle.request.specs.Disks.{mask_of}
+use Rattle.mask.specs.Disks.{disks_below, disks_of}
 use Rattle.basics.specs.Limits.{disks_most}
 
 pub has_plus : (d m e : ℕ) → m < 2 ^ d → has (m + 2 ^ d) e ≡ (eqb e d || has m e)
@@ -94,18 +92,6 @@ unfolding disks_of
 mask_all m h = mask_disks disks_most m ∙ mod-eq_of_lt h
 
 -- ---- the disks of a rising list's number
-
-pub disks_enough : (f k m : ℕ) → m < 2 ^ f → disks_below (f + k) m ≡ disks_below f m
-unfolding disks_below
-disks_enough f zero m h = ap (λ (k : ℕ). disks_below k m) {x = f + 0} {y = f} (omega arith)
-disks_enough f (suc k) m h =
-    ap (λ (k : ℕ). disks_below k m) {x = f + suc k} {y = suc (f + k)} (omega arith)
-    ∙ ap (λ (x : List ℕ). disks_below (f + k) m ++ x) (pick_false ((f + k) ∷ []) [] (has_above f {d = f + k} h (omega arith)))
-    ∙ append-nil (disks_below (f + k) m)
-    ∙ disks_enough f k m h
-
-disks_up : (f n m : ℕ) → m < 2 ^ f → f ≤ n → disks_below n m ≡ disks_below f m
-disks_up f n m h l = ap (λ (k : ℕ). disks_below k m) {x = n} {y = f + (n - f)} (omega arith) ∙ disks_enough f (n - f) m h
 
 pub disks_same : (n m m' : ℕ) → ((e : ℕ) → e < n → has m e ≡ has m' e) → disks_below n m ≡ disks_below n m'
 unfolding disks_below
@@ -195,45 +181,3 @@ pub disks_rise : (high m : ℕ) → high < disks_most → m < 2 ^ (high + 1) →
 unfolding disks_of
 disks_rise high m l h =
     subst (Rises 0 high) (sym (disks_up (high + 1) disks_most m h (omega arith))) (disks_rising (high + 1) high m (omega arith)).0
-
--- ---- the lowest disk, then the rest
-
-disks_none : (n m : ℕ) → ((e : ℕ) → e < n → has m e ≡ false) → disks_below n m ≡ []
-unfolding disks_below
-disks_none zero m h = refl
-disks_none (suc n) m h =
-    ap₂ (λ (x y : List ℕ). x ++ y) (disks_none n m (λ e l. h e (omega arith))) (pick_false (n ∷ []) [] (h n (omega arith)))
-
-pub disks_zero : disks_of 0 ≡ []
-unfolding disks_of
-disks_zero = disks_none disks_most 0 (λ e l. has_zero e)
-
--- d is the lowest disk of m, and r is m with d taken out
-module _ (m d r : ℕ) (found : has m d ≡ true) (under : (e : ℕ) → e < d → has m e ≡ false)
-    (taken : (e : ℕ) → has r e ≡ (not (eqb e d) && has m e)) where
-  kept : (e : ℕ) → (e ≡ d → ⊥) → has m e ≡ has r e
-  kept e n = sym (taken e ∙ ap (λ (b : Bool). not b && has m e) (ne_eqb e d n))
-
-  first_at : disks_below (suc d) m ≡ d ∷ disks_below (suc d) r
-  unfolding disks_below
-  first_at =
-      let gone : has r d ≡ false = taken d ∙ ap (λ (b : Bool). not b && has m d) (eq-eqb d d refl) in
-      ap₂ (λ (x y : List ℕ). x ++ y) (disks_none d m under) (pick_true (d ∷ []) [] found)
-      ∙ sym
-      (ap₂ (λ (x y : List ℕ). d ∷ (x ++ y)) (disks_none d r (λ e l. sym (kept e (λ q. omega arith)) ∙ under e l))
-      (pick_false (d ∷ []) [] gone))
-
-  disks_first : (n : ℕ) → d < n → disks_below n m ≡ d ∷ disks_below n r
-  unfolding disks_below
-  disks_first zero l = absurd (omega arith)
-  disks_first (suc n) l = side (disks_first n) (eq-or-lt_of_le l)
-    where
-      side : (d < n → disks_below n m ≡ d ∷ disks_below n r) → (suc d ≡ suc n) ⊎ (suc d < suc n)
-          → disks_below (suc n) m ≡ d ∷ disks_below (suc n) r
-      side rest (inl e) = subst (λ (k : ℕ). disks_below (suc k) m ≡ d ∷ disks_below (suc k) r) {x = d} {y = n} (omega arith) first_at
-      side rest (inr k) = ap₂ (λ (x : List ℕ) (b : Bool). x ++ pick b (n ∷ []) []) (rest (omega arith)) (kept n (λ q. omega arith))
-
-pub disks_lowest : (m d r : ℕ) → m < 2 ^ 64 → 0 < m → Lowest m d → ((e : ℕ) → has r e ≡ (not (eqb e d) && has m e))
-    → disks_of m ≡ d ∷ disks_of r
-unfolding disks_of
-disks_lowest m d r h p low taken = disks_first m d r (lowest_has m d h p low) low.under taken disks_most (lowest_some m d h p low)

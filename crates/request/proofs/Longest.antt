@@ -34,7 +34,8 @@ module _ (k unit t a n : ℕ) (ms bs : List ℕ) where
       omega (
         arith,
         ap length d.bytes,
-        request_length k unit t a ms refl (record { count = d.head.count; bytes = refl; small = blocks_bound n ms d.blocks }),
+        request_length k unit t a (length ms) ms refl refl
+            (record { count = d.head.count; bytes = refl; small = blocks_bound n ms d.blocks }),
         heading_length k unit t a (length ms) (kind_small k d.head.kind),
       )
 

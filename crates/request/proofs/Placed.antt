@@ -17,7 +17,7 @@ use Rattle.basics.specs.Lists.{All}
 use Rattle.basics.proofs.Choice.{pick_elim}
 use Rattle.field.specs.declared.Fault.{Fault}
 use Rattle.field.specs.declared.Refusal.TheVariants.{NoRoom, AllOut}
-use Rattle.field.specs.declared.Written.TheVariants.{Refused}
+use Rattle.std.specs.Prelude.{Err}
 use Rattle.field.specs.Field.{number, between, ascending, opening as opened}
 use Rattle.field.specs.Refusal.{number_of}
 use Rattle.field.specs.Send.{answer_to, Sent}
@@ -28,9 +28,7 @@ use Rattle.field.proofs.Sends.{Roomless, sent_enough}
 use Rattle.field.proofs.Values.{between_range}
 use Rattle.field.proofs.Within.{Within, within_bind, within_then, within_known, within_bounded, within_pure, within_more, within_number}
 use Rattle.field.proofs.Within.{within_between, within_opening, within_due, within_times, within_ascending, within_whole, place_inside}
-use Rattle.request.specs.declared.Answer.TheVariants.{Refused as Denied}
 use Rattle.request.specs.declared.Head.{Head}
-use Rattle.request.specs.declared.Request.{Request}
 use Rattle.request.specs.Told.{Told}
 use Rattle.request.specs.Request.{kinds, last_disk, used, block, opening, age, heading, body, request_sheet}
 use Rattle.request.specs.Draft.{request_draft}
@@ -97,9 +95,9 @@ pub unset_placed : (unit t : ℕ) (out : ℕ → Bool) (s : List ℕ) {k e : ℕ
 unset_placed unit t out s h = sheet_stops unit t 0 out s (heading_stops unit t 0 s (opening_unset unit t 0 s h refl))
 
 -- the same of what `read` answers
-pub read_placed : (unit t n : ℕ) (out : ℕ → Bool) (s : List ℕ) {k : ℕ} {r : Request} {f : Fault}
-    → Told k (request_sheet unit t n out s 0) r → r.answer ≡ Denied f → f.place ≤ length s
-read_placed unit t n out s {k} {r} {f} w h = sheet_placed unit t n out s (refused_sheet k (request_sheet unit t n out s 0) r f w h)
+pub read_placed : (unit t n : ℕ) (out : ℕ → Bool) (s : List ℕ) (k : ℕ) (f : Fault)
+    → Told k (request_sheet unit t n out s 0) (Err f) → f.place ≤ length s
+read_placed unit t n out s k f w = sheet_placed unit t n out s (refused_sheet k (request_sheet unit t n out s 0) f w)
 
 -- ---- where all copies of a block are out
 
@@ -172,10 +170,10 @@ last_copy unit t n out s h =
     (other _ few out 10 refl) unit t n out (refuses_block (last_disk n) few out)) s 0 h
 
 -- the same of what `read` answers
-pub read_last_copy : (unit t n : ℕ) (out : ℕ → Bool) (s : List ℕ) {k : ℕ} {r : Request} {f : Fault}
-    → Told k (request_sheet unit t n out s 0) r → r.answer ≡ Denied f → f.refusal ≡ AllOut → LastCopy (last_disk n) out s f.place
-read_last_copy unit t n out s {k} {r} {f} w h q =
-    last_copy unit t n out s (refused_sheet k (request_sheet unit t n out s 0) r f w h) (ap number_of q)
+pub read_last_copy : (unit t n : ℕ) (out : ℕ → Bool) (s : List ℕ) (k : ℕ) (f : Fault)
+    → Told k (request_sheet unit t n out s 0) (Err f) → f.refusal ≡ AllOut → LastCopy (last_disk n) out s f.place
+read_last_copy unit t n out s k f w q =
+    last_copy unit t n out s (refused_sheet k (request_sheet unit t n out s 0) f w) (ap number_of q)
 
 -- ---- what is enough
 
@@ -184,6 +182,6 @@ module _ (k unit t a n : ℕ) (ms : List ℕ) where
   unfolding Roomless
   roomless = draft_elim Roomless (λ m own. own.1) k unit t a n ms tt
 
-  pub write_enough : (out out' : List ℕ) (f : Fault) (after : List ℕ) → Sent (request_draft k unit t a n ms) out (Refused f) after
+  pub write_enough : (out out' : List ℕ) (f : Fault) (after : List ℕ) → Sent (request_draft k unit t a n ms) out (Err f) after
       → f.refusal ≡ NoRoom → f.place ≤ length out' → answer_to (request_draft k unit t a n ms) out' ≡ got tt f.place
   write_enough out out' f after w q l = sent_enough (request_draft k unit t a n ms) out out' f after roomless w q l

@@ -2,52 +2,50 @@
 --     last_few, last_all, last_under                       the last disk
 --     gather_done, gather_step, gather_stop                the disks of a block, one by one
 --     Gathering                                            as a loop: the disks read so far are in m, the rest is still to be read
---     block_of, block_stops                                a block, by its copy count
---     behind, behind_some, used_not, used_so               its disks stand behind some byte; whether some of them are in use
---     head_got, head_refused                               what an answer told of the heading
+--     disk_above, disk_stops                               a byte above the last disk is no disk
+--     if_used, block_of                                    a block whose copies are not all out; a block, by its copy count
+--     block_stops, block_breaks, block_tested, behind      a block, by its copy count, its disks, and whether some of them are in use
 --     opening_stops, opening_unset, opening_known          kind, unit, tenancy and settings, by where they stop
 --     age_four, age_none                                   the age, by the kind
 --     heading_stops, heading_age, heading_count, heading_of     the fields before the blocks, by where they stop
 --     said                                                 what a request says, of these values
 --     Filling, filling_start, filling_step, filling_stop, filling_extra, filling_done    the blocks, as a loop
---     sheet_next, sheet_stops, answered_of, answered_sheet the whole sheet
+--     told_stopped, sheet_next, sheet_stops                the whole sheet
 --     Listed, Headed, Whole, block_got, heading_got, sheet_got     what an accepted block, heading or sheet says of each part
-use mathlib.Core.Path.{◌≡◌, refl, sym, ap, ◌∙◌, subst, subst⁻¹}
-use mathlib.Core.Bool.{Bool, true, false, not, ◌&&◌, ◌||◌}
-use mathlib.Core.List.{List, ◌∷◌}
+use mathlib.Core.Path.{◌≡◌, refl, sym, ap, ap₂, ◌∙◌, subst, subst⁻¹}
+use mathlib.Core.Bool.{Bool, true, false, ◌||◌}
+use mathlib.Core.List.{List, ◌∷◌, ◌++◌}
 use Prim.Native.Nat.{ℕ, suc, ◌+◌, ◌-◌, ◌^◌, ◌≤◌, ◌<◌}
 use native.Mathlib.Omega.{arith}
 use borrow.Author.Tests.{eq-eqb, ne_eqb, lt-ltb, le-ltb, ltb-true}
 use lib.Dec.{eqb, ltb, lit<}
-use lib.ListN.{length, replicate, take, drop, set, length-set, length-replicate, get_or}
-use lib.Seq.{length-take-le, take-suc-set, drop-set-lt, drop-drop}
+use lib.ListN.{length, replicate, take, drop, set, length-set, get_or}
+use lib.Seq.{take-length}
+use Rattle.std.proofs.lemmas.List.{drop-replicate, take_more_set}
 use Rattle.basics.specs.Choice.{pick}
 use Rattle.basics.proofs.Choice.{pick_true, pick_false, pick_elim}
+use Rattle.std.specs.Prelude.{Result, Err}
 use Rattle.field.specs.declared.Fault.{Fault}
 use Rattle.field.specs.Refusal.{note_of}
+use Rattle.field.specs.Told.{told_by}
 use Rattle.field.specs.Sheet.{Note, Out, got, refused, note, Parser, and_then, ◌>>=◌, ◌>>◌, pure, here, require, times}
 use Rattle.field.specs.Field.{number, between, opening as opened, inside, rising, ascending, end, whole}
 use Rattle.field.proofs.Sheet.{next, then, stops, halts, pass, fail, at_here, Step, bind_got, passed, pure_got}
 use Rattle.field.proofs.Values.{between_within, between_range, ascending_rises}
 use Rattle.field.proofs.Lists.{prefix, times_start, times_step, times_stop, times_done}
 use Rattle.field.proofs.Whole.{whole_next, whole_stops, whole_refused, whole_got, end_place}
-use Rattle.request.specs.declared.Answer.TheVariants.{Accepted}
-use Rattle.request.specs.declared.Copies.{Copies}
-use Rattle.request.specs.declared.Copies.TheVariants.{Got, Refused as NoBlock}
 use Rattle.request.specs.declared.Head.{Head}
-use Rattle.request.specs.declared.HeadRead.{HeadRead}
-use Rattle.request.specs.declared.HeadRead.TheVariants.{Got as GotHead, Refused as NoHead}
 use Rattle.request.specs.declared.Request.{Request}
-use Rattle.request.specs.Disks.{mask_of, disks_of}
+use Rattle.request.specs.Disks.{mask_of}
+use Rattle.mask.specs.Disks.{disks_of}
 use Rattle.request.specs.Request.{kinds, Said, last_disk, used, block, opening, age, heading, body, request_sheet}
-use Rattle.request.specs.Parts.{told_head, told_copies, masked, Behind, if_used, Beyond}
-use Rattle.request.specs.Told.{told_answer, counted, kind_in, age_in, copies_of, Told}
+use Rattle.request.specs.Parts.{masked}
+use Rattle.request.specs.Told.{request_of, handed, Told}
 use Rattle.basics.specs.Limits.{disks_most, blocks_most, copies_most}
-use Rattle.basics.proofs.Padded.{pad_whole}
+use Rattle.basics.specs.Padded.{pad_to}
 use Rattle.mask.specs.Has.{has}
 use Rattle.field.proofs.Readers.{between_got, between_above, between_under, between_stops}
 use Rattle.field.proofs.OneByte.{number_ends, number_byte, number_above, ascending_last}
-use Rattle.request.proofs.Used.{nothing_left, some_left}
 use Rattle.request.proofs.Disks.{put_sum, plus_lt, lt_up, disks_mask}
 
 -- ---- the last disk
@@ -97,65 +95,69 @@ module _ (high : ℕ) (s : List ℕ) (left floor at m : ℕ) where
 
 -- ---- byte by byte
 
-pub record Gathering (high : ℕ) (s : List ℕ) (at k m floor p left : ℕ) : Type 0 where
-  pub rest : masked m (ascending left floor high s p) ≡ masked 0 (ascending k 0 high s at)
+-- i disks are read, into m; the rest of k is still to be read from p on
+pub record Gathering (high : ℕ) (s : List ℕ) (at k m floor p i : ℕ) : Type 0 where
+  pub rest : masked m (ascending (k - i) floor high s p) ≡ masked 0 (ascending k 0 high s at)
   pub above : m < 2 ^ floor
 
-pub gathering_start : {high : ℕ} {s : List ℕ} {at k : ℕ} → Gathering high s at k 0 0 at k
-gathering_start = record { rest = refl; above = lit< tt }
+pub gathering_start : (high : ℕ) (s : List ℕ) (at k : ℕ) → Gathering high s at k 0 0 at 0
+gathering_start high s at k = record {
+  rest = ap (λ (j : ℕ). masked 0 (ascending j 0 high s at)) {x = k - 0} {y = k} (omega arith);
+  above = lit< tt;
+}
 
-module _ {high : ℕ} {s : List ℕ} {at k m floor p left : ℕ} (g : Gathering high s at k m floor p left) where
+module _ {high : ℕ} {s : List ℕ} {at k m floor p i : ℕ} (g : Gathering high s at k m floor p i) where
   -- the first refusal stands
-  pub gathering_stop : {n : Note} → 0 < left → rising floor high s p ≡ refused n → refused n ≡ masked 0 (ascending k 0 high s at)
-  gathering_stop l h = sym (gather_stop high s left floor p m (λ z. omega (arith, l, z)) h) ∙ g.rest
+  pub gathering_stop : {n : Note} → i < k → rising floor high s p ≡ refused n → refused n ≡ masked 0 (ascending k 0 high s at)
+  gathering_stop l h = sym (gather_stop high s (k - i) floor p m (λ z. omega (arith, l, z)) h) ∙ g.rest
 
-  pub gathering_ends : 0 < left → length s ≤ p → refused (note 1 (length s)) ≡ masked 0 (ascending k 0 high s at)
+  pub gathering_ends : i < k → length s ≤ p → refused (note 1 (length s)) ≡ masked 0 (ascending k 0 high s at)
   gathering_ends l h = gathering_stop l (between_stops s p (number_ends s p h) floor high 8 16)
 
   module _ {d : ℕ} (few : high < disks_most) (here : p < length s) (is : d ≡ get_or s p 0) (within : d ≤ high) where
     stands : number s p ≡ got d (p + 1)
     stands = number_byte s p here (omega (arith, is)) ∙ ap (λ (v : ℕ). got v (p + 1)) (sym is)
 
-    pub gathering_low : 0 < left → d < floor → refused (note 8 p) ≡ masked 0 (ascending k 0 high s at)
+    pub gathering_low : i < k → d < floor → refused (note 8 p) ≡ masked 0 (ascending k 0 high s at)
     gathering_low l b = gathering_stop l (between_under s p stands floor high 8 16 within b)
 
-    pub gathering_step : {r : ℕ} → 0 < left → floor ≤ d → r < 2 ^ 64 → ((e : ℕ) → has r e ≡ (eqb e d || has m e))
-        → Gathering high s at k r (d + 1) (p + 1) (left - 1)
+    pub gathering_step : {r : ℕ} → i < k → floor ≤ d → r < 2 ^ 64 → ((e : ℕ) → has r e ≡ (eqb e d || has m e))
+        → Gathering high s at k r (d + 1) (p + 1) (i + 1)
     gathering_step {r} l b fits a =
         let up : m < 2 ^ d = lt_up g.above b in
         let sum : r ≡ m + 2 ^ d = put_sum m d r (omega arith) up fits a in
         record {
-          rest = sym (gather_step high s left floor p m r sum (λ z. omega (arith, l, z)) (between_got s p stands floor high 8 16 b within))
+          rest = ap (λ (j : ℕ). masked r (ascending j (d + 1) high s (p + 1))) {x = k - (i + 1)} {y = k - i - 1} (omega arith)
+              ∙ sym (gather_step high s (k - i) floor p m r sum (λ z. omega (arith, l, z))
+              (between_got s p stands floor high 8 16 b within))
               ∙ g.rest;
           above = subst⁻¹ (λ (x : ℕ). x < 2 ^ (d + 1)) sum (plus_lt d m up);
         }
 
-  pub gathering_done : left ≤ 0 → got m p ≡ masked 0 (ascending k 0 high s at)
-  gathering_done z = sym (gather_done high s left floor p m (omega arith)) ∙ g.rest
+  pub gathering_done : k ≤ i → got m p ≡ masked 0 (ascending k 0 high s at)
+  gathering_done z = sym (gather_done high s (k - i) floor p m (omega arith)) ∙ g.rest
 
 -- a number whose first byte is above the last disk is no disk's
-module _ (high : ℕ) (s : List ℕ) (at : ℕ) {r : Copies} where
-  pub beyond_got : {v e : ℕ} → high < disks_most → at < length s → high < get_or s at 0 → told_copies r ≡ refused (note 16 at)
-      → number s at ≡ got v e → Beyond high s at r
-  beyond_got few here over t h = record {
-    why = note 16 at;
-    told = t;
-    stops = λ floor. between_above s at h floor high 8 16 (number_above s at here (omega arith) over h);
-  }
+module _ (high : ℕ) (s : List ℕ) (at floor : ℕ) where
+  pub disk_above : {v e : ℕ} → high < disks_most → at < length s → high < get_or s at 0 → number s at ≡ got v e
+      → rising floor high s at ≡ refused (note 16 at)
+  disk_above few here over h = between_above s at h floor high 8 16 (number_above s at here (omega arith) over h)
 
-  pub beyond_stops : {n : Note} → told_copies r ≡ refused n → number s at ≡ refused n → Beyond high s at r
-  beyond_stops {n} t h = record { why = n; told = t; stops = λ floor. between_stops s at h floor high 8 16 }
+  pub disk_stops : {n : Note} → number s at ≡ refused n → rising floor high s at ≡ refused n
+  disk_stops h = between_stops s at h floor high 8 16
 
 -- ---- a block
 
--- what an answer told of a block
-pub copies_got : {f : Copies} {o : Out ℕ} {m e : ℕ} → told_copies f ≡ o → f ≡ Got m e → o ≡ got m e
-unfolding told_copies
-copies_got h q = sym h ∙ ap told_copies q
+-- what an answer told of its disks
+masked_got : (o : Out (List ℕ)) (m e : ℕ) → got m e ≡ masked 0 o → (ds : List ℕ) × (o ≡ got ds e) × (mask_of ds ≡ m)
+unfolding masked
+masked_got (got ds n) m e h = (ds, cc, let q : m ≡ 0 + mask_of ds = cc in omega arith)
+masked_got (refused r) m e h = absurd (let z : ◌≡◌ {A = ℕ} 0 1 = cc in omega arith)
 
-pub copies_refused : {f : Copies} {o : Out ℕ} {r : Fault} → told_copies f ≡ o → f ≡ NoBlock r → o ≡ refused (note_of r)
-unfolding told_copies
-copies_refused h q = sym h ∙ ap told_copies q
+masked_refused : (o : Out (List ℕ)) {n : Note} → refused n ≡ masked 0 o → o ≡ refused n
+unfolding masked
+masked_refused (got ds n) h = absurd (let z : ◌≡◌ {A = ℕ} 0 1 = cc in omega arith)
+masked_refused (refused e) h = cc
 
 -- the test behind the disks
 tested : (b : Bool) (n : Note) (m : ℕ) (s : List ℕ) (at : ℕ) → (require b n >> pure m) s at ≡ pick b (got m at) (refused n)
@@ -166,6 +168,11 @@ tested false n m s at = refl
 -- that some of the disks are in use, and their number
 abbrev chosen : (ℕ → Bool) → List ℕ → Parser ℕ
 chosen out ds = here >>= λ next. require (used out ds) (note 20 (next - 1)) >> pure (mask_of ds)
+
+-- the copies of a block, where some are in use: 20 else, at the last of them
+unfoldable pub if_used : (ℕ → Bool) → Out ℕ → Out ℕ
+if_used out (got m at) = pick (used out (disks_of m)) (got m at) (refused (note 20 (at - 1)))
+if_used out (refused e) = refused e
 
 chosen_masked : (out : ℕ → Bool) (s : List ℕ) (o : Out (List ℕ)) → ((ds : List ℕ) (e : ℕ) → o ≡ got ds e → disks_of (mask_of ds) ≡ ds)
     → and_then o (λ ds n. chosen out ds s n) ≡ if_used out (masked 0 o)
@@ -178,46 +185,39 @@ chosen_masked out s (got ds n) h =
 chosen_masked out s (refused e) h = refl
 
 module _ (high : ℕ) (out : ℕ → Bool) (s : List ℕ) (at : ℕ) where
-  pub block_of : {k e : ℕ} → high < disks_most → between 1 copies_most 7 6 s at ≡ got k e
-      → block high out s at ≡ if_used out (masked 0 (ascending k 0 high s e))
-  unfolding block ◌>>=◌
-  block_of {k} {e} few h =
-      next (between 1 copies_most 7 6) (λ k. ascending k 0 high >>= chosen out) s at h
-      ∙ chosen_masked out s (ascending k 0 high s e) (λ ds i g. disks_mask high ds few (ascending_rises high s k 0 e ds i g).1)
-
   pub block_stops : {n : Note} → between 1 copies_most 7 6 s at ≡ refused n → block high out s at ≡ refused n
   unfolding block
   block_stops h = stops (between 1 copies_most 7 6) _ s at h
 
-masked_got : (o : Out (List ℕ)) {m e : ℕ} → got m e ≡ masked 0 o → (ds : List ℕ) × (o ≡ got ds e)
-unfolding masked
-masked_got (got ds n) h = (ds, cc)
-masked_got (refused e) h = absurd (let z : ◌≡◌ {A = ℕ} 0 1 = cc in omega arith)
+  module _ {k e : ℕ} (h : between 1 copies_most 7 6 s at ≡ got k e) where
+    pub block_of : high < disks_most → block high out s at ≡ if_used out (masked 0 (ascending k 0 high s e))
+    unfolding block ◌>>=◌
+    block_of few =
+        next (between 1 copies_most 7 6) (λ k. ascending k 0 high >>= chosen out) s at h
+        ∙ chosen_masked out s (ascending k 0 high s e) (λ ds i g. disks_mask high ds few (ascending_rises high s k 0 e ds i g).1)
 
--- the disks of a block stand behind some byte
-pub behind : (high : ℕ) → high < disks_most → (s : List ℕ) (k at : ℕ) (r : Copies) → 1 ≤ k
-    → told_copies r ≡ masked 0 (ascending k 0 high s at) → Behind r
-unfolding told_copies Behind
-behind high few s k at (Got m e) some h =
-    let w = masked_got (ascending k 0 high s at) h in
-    let more : k ≡ suc (k - 1) = omega arith in
-    (ascending_last high (omega arith) s (k - 1) 0 at w.0 e (ap (λ (i : ℕ). ascending i 0 high s at) (sym more) ∙ w.1)).0
-behind high few s k at (NoBlock e) some h = tt
+    pub block_breaks : {n : Note} → refused n ≡ masked 0 (ascending k 0 high s e) → block high out s at ≡ refused n
+    unfolding block
+    block_breaks w = next (between 1 copies_most 7 6) _ s at h ∙ stops (ascending k 0 high) _ s e (masked_refused _ w)
 
--- that some of its disks are in use: r holds those that are not in `gone`
-module _ {found : Copies} {m e : ℕ} (h : found ≡ Got m e) where
-  pub behind_some : Behind found → 0 < e
-  unfolding Behind
-  behind_some b = subst Behind h b
+    module _ (few : high < disks_most) {m i : ℕ} (w : got m i ≡ masked 0 (ascending k 0 high s e)) where
+      pub block_tested : block high out s at ≡ pick (used out (disks_of m)) (got m i) (refused (note 20 (i - 1)))
+      unfolding block
+      block_tested =
+          let g = masked_got (ascending k 0 high s e) m i w in
+          let same : disks_of (mask_of g.0) ≡ g.0 = disks_mask high g.0 few (ascending_rises high s k 0 e g.0 i g.1).1 in
+          let last : Out ℕ = refused (note 20 (i - 1)) in
+          next (between 1 copies_most 7 6) (λ k. ascending k 0 high >>= chosen out) s at h
+          ∙ next (ascending k 0 high) (chosen out) s e g.1 ∙ at_here _ s i ∙ tested (used out g.0) (note 20 (i - 1)) (mask_of g.0) s i
+          ∙ ap (λ (x : List ℕ). pick (used out x) (got (mask_of g.0) i) last) (sym same)
+          ∙ ap (λ (x : ℕ). pick (used out (disks_of x)) (got x i) last) g.2
 
-  module _ (gone : ℕ) {r : ℕ} (left : (d : ℕ) → has r d ≡ (has m d && not (has gone d))) where
-    pub used_not : r ≡ 0 → refused (note 20 (e - 1)) ≡ if_used (has gone) (told_copies found)
-    unfolding if_used told_copies
-    used_not z = rw h (sym (pick_false _ _ (nothing_left m gone r left z)))
-
-    pub used_so : m < 2 ^ disks_most → r < 2 ^ disks_most → (r ≡ 0 → ⊥) → got m e ≡ if_used (has gone) (told_copies found)
-    unfolding if_used told_copies
-    used_so l k some = rw h (sym (pick_true _ _ (some_left m gone r left l k some)))
+      -- its disks stand behind some byte
+      pub behind : 0 < i
+      behind =
+          let g = masked_got (ascending k 0 high s e) m i w in
+          let more : k ≡ suc (k - 1) = omega (arith, (between_range 1 copies_most 7 6 s at h).0) in
+          (ascending_last high (omega arith) s (k - 1) 0 e g.0 i (ap (λ (j : ℕ). ascending j 0 high s e) (sym more) ∙ g.1)).0
 
 -- what an accepted block says of each field
 pub record Listed (high : ℕ) (out : ℕ → Bool) (s : List ℕ) (at m e : ℕ) : Type 0 where
@@ -254,15 +254,6 @@ block_got high out s at m e h =
     }
 
 -- ---- the fields before the blocks
-
--- what an answer told of them
-pub head_got : {f : HeadRead} {o : Out Head} {h : Head} {e : ℕ} → told_head f ≡ o → f ≡ GotHead h e → o ≡ got h e
-unfolding told_head
-head_got t q = sym t ∙ ap told_head q
-
-pub head_refused : {f : HeadRead} {o : Out Head} {r : Fault} → told_head f ≡ o → f ≡ NoHead r → o ≡ refused (note_of r)
-unfolding told_head
-head_refused t q = sym t ∙ ap told_head q
 
 module _ (unit t n : ℕ) (s : List ℕ) where
   pub opening_stops : {m : Note} → opened kinds unit t s 0 ≡ refused m → opening unit t n s 0 ≡ refused m
@@ -356,34 +347,25 @@ heading_within unit t n s at {h} {e} w =
 
 -- ---- the blocks
 
--- the first i blocks are read: their copies stand in the first i places, and the others are 0
+-- the first i blocks are read: their copies stand in the first i of Q places
 pub record Filling (q high : ℕ) (out : ℕ → Bool) (s : List ℕ) (at : ℕ) (copies : List ℕ) (p i : ℕ) : Type 0 where
   pub within : i ≤ q
-  pub long : length copies ≡ blocks_most
-  pub rest : drop i copies ≡ replicate (blocks_most - i) 0
+  pub long : length copies ≡ q
   pub held : times q (block high out) s at ≡ prefix (take i copies) (times (q - i) (block high out) s p)
 
--- one 0 less
-drop_zeros : (k : ℕ) → k < blocks_most → drop {A = ℕ} 1 (replicate (blocks_most - k) 0) ≡ replicate (blocks_most - (k + 1)) 0
-drop_zeros k h = ap (λ (j : ℕ). drop {A = ℕ} 1 (replicate j 0)) {x = blocks_most - k} {y = suc (blocks_most - (k + 1))} (omega arith)
-
 module _ (q high : ℕ) (out : ℕ → Bool) (s : List ℕ) (at : ℕ) where
-  pub filling_start : Filling q high out s at (replicate blocks_most 0) at 0
-  filling_start = record
-      { within = omega arith; long = length-replicate {A = ℕ} blocks_most 0; rest = refl; held = times_start (block high out) s q at }
+  pub filling_start : (copies : List ℕ) → length copies ≡ q → Filling q high out s at copies at 0
+  filling_start copies e = record { within = omega arith; long = e; held = times_start (block high out) s q at }
 
-  pub filling_step : (copies : List ℕ) (p i : ℕ) → Filling q high out s at copies p i → {m e : ℕ} → i < q → q ≤ blocks_most
+  pub filling_step : (copies : List ℕ) (p i : ℕ) → Filling q high out s at copies p i → {m e : ℕ} → i < q
       → block high out s p ≡ got m e → Filling q high out s at (set copies i m) e (i + 1)
-  filling_step copies p i f {m} {e} l b h =
+  filling_step copies p i f {m} {e} l h =
       let room : i < length copies = omega (arith, f.long) in
       record {
         within = omega arith;
         long = length-set copies i m ∙ f.long;
-        rest = drop-set-lt (i + 1) copies i m (omega arith) ∙ sym (drop-drop 1 i copies) ∙ ap (drop 1) f.rest
-            ∙ drop_zeros i (omega arith);
         held = f.held ∙ times_step (block high out) s q i p (take i copies) l h
-            ∙ ap (λ (x : List ℕ). prefix x (times (q - (i + 1)) (block high out) s e)) (sym (take-suc-set copies i m room)
-            ∙ ap (λ (k : ℕ). take k (set copies i m)) {x = suc i} {y = i + 1} (omega arith));
+            ∙ ap (λ (x : List ℕ). prefix x (times (q - (i + 1)) (block high out) s e)) (sym (take_more_set copies i m room));
       }
 
 -- what a request of these values says
@@ -404,38 +386,34 @@ module _ (h : Head) (high : ℕ) (out : ℕ → Bool) (s : List ℕ) (at : ℕ) 
     pub filling_stop : {n : Note} → i < h.blocks → block high out s p ≡ refused n → whole (body h high out) s at ≡ refused n
     filling_stop l w = body_stops (f.held ∙ times_stop (block high out) s h.blocks i p (take i copies) l w)
 
-    all_read : h.blocks ≤ i → body h high out s at ≡ got (said h.kind h.age (take h.blocks copies)) p
+    all_read : h.blocks ≤ i → body h high out s at ≡ got (said h.kind h.age copies) p
     all_read l =
-        let e : i ≡ h.blocks = omega (arith, f.within) in
-        body_of (f.held ∙ times_done (block high out) s h.blocks i p (take i copies) l ∙ ap (λ (k : ℕ). got (take k copies) p) e)
+        let e : i ≡ length copies = omega (arith, f.within, f.long) in
+        body_of (f.held ∙ times_done (block high out) s h.blocks i p (take i copies) l
+        ∙ ap (λ (x : List ℕ). got x p) (ap (λ (k : ℕ). take k copies) e ∙ take-length copies))
 
     pub filling_extra : {n : Note} → h.blocks ≤ i → end s p ≡ refused n → whole (body h high out) s at ≡ refused n
     unfolding whole
     filling_extra l w = next (body h high out) _ s at (all_read l) ∙ halts end _ s p w
 
-    pub filling_done : {v e : ℕ} (r : Request) → r.answer ≡ Accepted h.blocks → r.kind ≡ h.kind → r.age ≡ h.age → r.copies ≡ copies
-        → h.blocks ≤ i → h.blocks ≤ blocks_most → end s p ≡ got v e → Told (length s) (whole (body h high out) s at) r
-    unfolding whole pure told_answer counted kind_in age_in copies_of
-    filling_done {v} {e} r a k g b l small w =
-        let q = h.blocks in
-        let n : length (take q copies) ≡ q = length-take-le q copies (omega (arith, f.long)) in
-        let o : whole (body h high out) s at ≡ got (said h.kind h.age (take q copies)) e =
+    -- what is handed out: 0 from Q on
+    pub filling_done : {v e : ℕ} → h.blocks ≤ i → end s p ≡ got v e
+        → got (record { blocks = h.blocks; kind = h.kind; age = h.age; copies = copies ++ drop h.blocks (replicate blocks_most 0) })
+        (length s) ≡ handed (whole (body h high out) s at)
+    unfolding whole pure pad_to
+    filling_done {v} {e} l w =
+        let o : whole (body h high out) s at ≡ got (said h.kind h.age copies) e =
         next (body h high out) _ s at (all_read l) ∙ then end _ s p w in
-        let i≡q : i ≡ q = omega (arith, f.within) in
-        record {
-          told = ap (told_answer (length s)) a ∙ ap (got q) (sym (end_place s p v e w))
-              ∙ ap (λ (k : ℕ). got k e) (sym n) ∙ sym (ap counted o);
-          kind = k ∙ sym (ap kind_in o);
-          age = g ∙ sym (ap age_in o);
-          held = b ∙ pad_whole 0 blocks_most copies q n (subst (λ (k : ℕ). drop k copies ≡ replicate (blocks_most - k) 0) i≡q f.rest)
-              ∙ sym (ap copies_of o);
-        }
+        let made : ℕ → List ℕ → Out Request =
+        λ k c. got (record { blocks = k; kind = h.kind; age = h.age; copies = copies ++ c }) (length s) in
+        ap₂ made (sym f.long) (drop-replicate h.blocks blocks_most 0 ∙ ap (λ (k : ℕ). replicate (blocks_most - k) 0) (sym f.long))
+        ∙ ap (got (request_of (said h.kind h.age copies))) (sym (end_place s p v e w)) ∙ sym (ap handed o)
 
 -- ---- the whole sheet
 
--- what is told of a refusal is told of a sheet that is refused so
-pub answered_of : {len : ℕ} {n : Note} {o : Out Said} {r : Request} → o ≡ refused n → Told len (refused n) r → Told len o r
-answered_of {len} {n} {o} {r} h a = subst (λ (x : Out Said). Told len x r) (sym h) a
+-- a refusal that is handed on is told
+pub told_stopped : (len : ℕ) (o : Out Said) {r : Result Request Fault} {f : Fault} → r ≡ Err f → o ≡ refused (note_of f) → Told len o r
+told_stopped len o q h = ap (told_by (λ x. got x len)) q ∙ sym (ap handed h)
 
 module _ (unit t n : ℕ) (out : ℕ → Bool) (s : List ℕ) where
   pub sheet_next : {h : Head} {e : ℕ} → heading unit t n s 0 ≡ got h e
@@ -446,13 +424,6 @@ module _ (unit t n : ℕ) (out : ℕ → Bool) (s : List ℕ) where
   pub sheet_stops : {m : Note} → heading unit t n s 0 ≡ refused m → request_sheet unit t n out s 0 ≡ refused m
   unfolding request_sheet
   sheet_stops w = whole_stops (heading unit t n) (λ h. body h (last_disk n) out) s 0 w
-
--- the blocks of a sheet whose heading was accepted
-pub answered_sheet : (unit t n : ℕ) (out : ℕ → Bool) (s : List ℕ) {h : Head} {e high : ℕ} {r : Request}
-    → heading unit t n s 0 ≡ got h e → high ≡ last_disk n → Told (length s) (whole (body h high out) s e) r
-    → Told (length s) (request_sheet unit t n out s 0) r
-answered_sheet unit t n out s {h} {e} {high} {r} w l a =
-    subst (λ (x : Out Said). Told (length s) x r) (ap (λ (k : ℕ). whole (body h k out) s e) l ∙ sym (sheet_next unit t n out s w)) a
 
 -- what an accepted sheet says of its two parts
 pub record Whole (unit t n : ℕ) (out : ℕ → Bool) (s : List ℕ) (r : Said) (e : ℕ) : Type 0 where

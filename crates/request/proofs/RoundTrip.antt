@@ -12,22 +12,21 @@ use mathlib.Core.Logic.{inl, inr, ⊎_elim}
 use mathlib.Core.List.{List, [], ◌∷◌, ◌++◌}
 use Prim.Native.Nat.{ℕ, ◌+◌, ◌-◌, ◌^◌, ◌≤◌, ◌<◌}
 use native.Mathlib.Omega.{arith}
-use borrow.Author.Tests.{lt-ltb, le-leb, eqb-false, ltb-true}
+use borrow.Author.Tests.{lt-ltb, eqb-false, ltb-true}
 use lib.Dec.{eqb}
 use lib.ListN.{length, take, get_or}
 use Rattle.number.specs.Bytes.{Bytes}
 use Rattle.number.specs.Encode.{encode}
-use Rattle.field.specs.declared.Written.{Written}
-use Rattle.field.specs.declared.Written.TheVariants.{Length}
-use Rattle.field.specs.Sheet.{got, refused, note, pure}
+use Rattle.std.specs.Prelude.{Result, Ok}
+use Rattle.field.specs.declared.Fault.{Fault}
+use Rattle.field.specs.Sheet.{got, note, pure}
 use Rattle.field.specs.Put.{spell_all, opening_bytes}
 use Rattle.basics.specs.Buffer.{over}
 use Rattle.basics.specs.Choice.{pick}
-use Rattle.basics.proofs.Choice.{pick_true}
 use Rattle.basics.proofs.Lists.{all_at, all_by}
 use Rattle.basics.proofs.Tests.{by_cases}
-use Rattle.field.specs.Send.{Draft, sheet, none, told_written, answer_to, left_by, Sent}
-use Rattle.field.proofs.Sends.{sent_bytes, written_injective}
+use Rattle.field.specs.Send.{sheet, Sent}
+use Rattle.field.proofs.Sends.{sent_sheet, sent_room}
 use Rattle.field.proofs.Read.{Reads, reads_bind, reads_pure, reads_here, reads_require, reads_tested, reads_checked, reads_number}
 use Rattle.field.proofs.Read.{reads_between, reads_whole}
 use Rattle.field.proofs.Spelt.{Spelt, spelt_join, spelt_whole, number_spelt, between_spelt}
@@ -35,7 +34,8 @@ use Rattle.field.proofs.Opened.{reads_opening, opening_spelt, opening_tenancy}
 use Rattle.basics.specs.Lists.{All, Rises, listed}
 use Rattle.field.proofs.Lists.{reads_times, reads_ascending, times_spelt, ascending_spelt}
 use Rattle.request.specs.declared.Head.{Head}
-use Rattle.request.specs.Disks.{mask_of, disks_of}
+use Rattle.request.specs.Disks.{mask_of}
+use Rattle.mask.specs.Disks.{disks_of}
 use Rattle.request.specs.Request.{kinds, Said, last_disk, block, opening, age, heading, body, request_sheet}
 use Rattle.request.specs.Draft.{block_bytes, age_bytes, heading_bytes, request_bytes, aged, request_draft}
 use Rattle.request.proofs.Aged.{kind_either, kind_listed, kind_small, aged_two, aged_zero, aged_other}
@@ -134,18 +134,10 @@ reads_sheet k unit t a n out ms bs u v w stay h =
     subst (λ (x : List ℕ). request_sheet unit t n out x 0 ≡ got (said k a ms) (length x)) (sym d.bytes)
     (reads_request k unit t a n out ms u v w d.head d.blocks stay)
 
--- whatever was written is a sheet, at the buffer's start
-sent_sheet : (d : Draft) (out : List ℕ) (k : ℕ) (after : List ℕ) → Sent d out (Length k) after
-    → (bs : List ℕ) × (d ≡ sheet bs) × (k ≡ length bs) × (take k after ≡ bs)
-unfolding told_written answer_to
-sent_sheet (sheet bs) out k after w = let b = sent_bytes bs out k after w in (bs, refl, b.0, b.1)
-sent_sheet (none e) out k after w =
-    absurd (let a : got tt k ≡ refused e = w.answer in let z : ◌≡◌ {A = ℕ} 0 1 = cc in omega arith)
-
 -- the writer was told this kind, this age and these copies, and the reader finds them in the bytes that it wrote, disks that are out among
 -- them, if each block has a copy in use
 pub read_written : (k unit t a n : ℕ) (gone : ℕ → Bool) (ms out : List ℕ) (len : ℕ) (after : List ℕ) → unit < 2 ^ 32 → t < 2 ^ 32
-    → a < 2 ^ 32 → All (InUse gone) ms → Sent (request_draft k unit t a n ms) out (Length len) after
+    → a < 2 ^ 32 → All (InUse gone) ms → Sent (request_draft k unit t a n ms) out (Ok len) after
     → request_sheet unit t n gone (take len after) 0 ≡ got (said k a ms) len
 read_written k unit t a n gone ms out len after u v y stay w =
     let b = sent_sheet (request_draft k unit t a n ms) out len after w in
@@ -154,7 +146,7 @@ read_written k unit t a n gone ms out len after u v y stay w =
 
 -- where no disk is out, whatever was written
 pub read_written_all : (k unit t a n : ℕ) (ms out : List ℕ) (len : ℕ) (after : List ℕ) → unit < 2 ^ 32 → t < 2 ^ 32 → a < 2 ^ 32
-    → Sent (request_draft k unit t a n ms) out (Length len) after
+    → Sent (request_draft k unit t a n ms) out (Ok len) after
     → request_sheet unit t n (λ _. false) (take len after) 0 ≡ got (said k a ms) len
 read_written_all k unit t a n ms out len after u v y w =
     let b = sent_sheet (request_draft k unit t a n ms) out len after w in
@@ -223,14 +215,10 @@ write_accepted unit t n out s r e b l h =
 
 -- with room for it, the writer leaves the same bytes
 pub written_accepted : (unit t n : ℕ) (gone : ℕ → Bool) (s : List ℕ) (r : Said) (e : ℕ) → Bytes s → n ≤ disks_most
-    → request_sheet unit t n gone s 0 ≡ got r e → (out : List ℕ) (a : Written) (after : List ℕ) → length s ≤ length out
-    → Sent (request_draft r.kind unit t r.age n r.copies) out a after → (a ≡ Length (length s)) × (after ≡ over s out)
-unfolding told_written answer_to left_by
+    → request_sheet unit t n gone s 0 ≡ got r e → (out : List ℕ) (a : Result ℕ Fault) (after : List ℕ) → length s ≤ length out
+    → Sent (request_draft r.kind unit t r.age n r.copies) out a after → (a ≡ Ok (length s)) × (after ≡ over s out)
 written_accepted unit t n gone s r e b l h out a after room w =
-    let d = write_accepted unit t n gone s r e b l h in (
-      written_injective a (Length (length s)) (w.answer ∙ ap (λ x. answer_to x out) d ∙ pick_true _ _ (le-leb _ _ room)),
-      w.held ∙ ap (λ x. left_by x out) d ∙ pick_true _ _ (le-leb _ _ room),
-    )
+    sent_room out a after (write_accepted unit t n gone s r e b l h) room w
 
 -- whichever disks are out, an accepted sheet says the same of kind, age and copies, if each block has a copy in use
 pub read_again : (unit t n : ℕ) (out others : ℕ → Bool) (s : List ℕ) (r : Said) (e : ℕ) → Bytes s → n ≤ disks_most

@@ -19,7 +19,7 @@ use Rattle.basics.proofs.Count.{any_some, any_here}
 use Rattle.basics.proofs.Tests.{by_cases, differ, not_here, both, and_both, or_left, or_right}
 use Rattle.mask.specs.Has.{has}
 use Rattle.mask.proofs.Has.{has_zero, has_place, mask_some}
-use Rattle.request.specs.Disks.{disks_below, disks_of}
+use Rattle.mask.specs.Disks.{disks_below, disks_of}
 use Rattle.request.specs.Request.{used}
 
 module _ (out : ℕ → Bool) where

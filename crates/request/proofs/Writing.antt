@@ -1,8 +1,7 @@
 -- Laws of writing a request.
 --     disks_in, disks_out, disks_length, disks_count    one place more of a number of copies; its bytes, and how many disks it has
---     block_length, block_room, block_put               the bytes of a block
---     Left, left_all, left_next, left_none              the disks of a block, as a loop
---     blocks_more, blocks_all                           the blocks, as a loop
+--     block_length, block_put                           the bytes of a block
+--     Left, left_all, left_small, left_next, left_none  the disks of a block, as a loop
 --     known_in, known_out                               a number of copies has no disk at N or above, or it has one
 --     Counting                                          so many blocks can be sent, and their bytes are counted
 --     counting_start, counting_step, counting_done, counting_none, counting_many, counting_high     as a loop
@@ -11,52 +10,48 @@
 --     Sendable, checked_all, checked_pass               what is known of the copies of a block that can be sent
 --     Drafted, drafted, draft_of_law                        a draft that is a sheet: what is known of its values
 --     draft_elim                                        what holds of each refusal and of the sheet holds of the draft
---     judged_got, judged_refused                        what was judged of the fields before the blocks
+--     judged_got                                        what was judged of the fields before the blocks
 --     heading_length, blocks_bound, request_length      the lengths
---     sized_got, sized_refused                          what the count of the blocks' bytes told
---     age_room, heading_put                             where the heading has room, its parts have
---     heading_room, blocks_room, request_sent           where the whole request has room, its parts have
+--     request_sent                                      a request that was put
 use mathlib.Core.Path.{◌≡◌, refl, sym, ap, ◌∙◌, subst}
 use mathlib.Core.Bool.{true, false, not, ◌&&◌, Bool, true≢false, and-true, and-false}
 use mathlib.Core.List.{List, [], ◌∷◌, ◌++◌, append-nil}
 use Prim.Native.Nat.{ℕ, zero, suc, ◌+◌, ◌^◌, ◌≤◌, ◌<◌, ◌*◌}
 use native.Mathlib.Omega.{arith}
 use lib.Dec.{eqb, ltb, leb}
-use lib.ListN.{length, take, get_or, length-append, drop}
-use lib.Seq.{take-length, drop-cons, drop-length}
+use lib.ListN.{length, get_or, length-append, drop}
+use lib.Seq.{drop-cons, drop-length}
 use Rattle.number.specs.Encode.{encode, width_of}
 use Rattle.basics.proofs.Choice.{pick_true, pick_false, pick_elim}
 use Rattle.basics.proofs.Tests.{by_cases}
 use Rattle.number.proofs.Encode.{width_one}
 use Rattle.mask.specs.Has.{has}
-use Rattle.mask.specs.Lowest.{Lowest}
 use Rattle.mask.specs.Count.{members}
 use Rattle.basics.specs.Count.{bit, sum, count}
 use Rattle.basics.proofs.Count.{count_most}
-use Rattle.field.specs.Put.{spell_all, PutOne, Laid, opening_bytes}
-use Rattle.field.proofs.Puts.{laid_none, laid_length, laid_join, put_one, front_room, rest_room}
-use Rattle.field.proofs.Spell.{spell_append, spell_more}
-use Rattle.request.specs.Disks.{disks_below, disks_of}
+use Rattle.field.specs.declared.Pen.{Pen}
+use Rattle.field.specs.Pen.{Puts, Lays}
+use Rattle.field.specs.Put.{spell_all, opening_bytes}
+use Rattle.field.proofs.Pens.{lays_none, lays_one, lays_join, lays_same, lays_sent}
+use Rattle.field.proofs.Spell.{spell_append}
+use Rattle.mask.specs.Disks.{disks_below, disks_of}
+use Rattle.mask.proofs.Listed.{disks_small, each_first}
 use Rattle.request.specs.Draft.{block_bytes, age_bytes, heading_bytes, request_bytes, aged, headed, checked, request_draft}
 use Rattle.request.specs.Judged.{Judged}
 use Rattle.request.specs.Request.{kinds}
-use Rattle.request.proofs.Disks.{disks_zero, disks_lowest}
 use borrow.Author.Tests.{eq-eqb, ne_eqb, lt-ltb, le-ltb, le-leb, lt-leb, ltb-true, ltb-false, eqb-false, leb-false}
 use Rattle.mask.specs.Member.{Below}
 use Rattle.mask.proofs.Has.{has_zero, has_above, has_bound, mask_some}
 use Rattle.field.specs.Send.{Draft, none, sheet, Sent}
 use Rattle.field.specs.Sheet.{Note, unplaced}
-use Rattle.request.specs.Parts.{Counted, Sized}
+use Rattle.request.specs.Parts.{Counted}
 use Rattle.basics.specs.Choice.{pick}
 use Rattle.field.specs.declared.Fault.{Fault}
-use Rattle.field.specs.declared.Verdict.{Verdict}
-use Rattle.field.specs.declared.Verdict.TheVariants.{Accepted, Refused as Denied}
-use Rattle.field.specs.declared.Written.{Written}
-use Rattle.field.specs.declared.Written.TheVariants.{Length, Refused}
+use Rattle.std.specs.Prelude.{Result, Ok, Err}
 use Rattle.field.specs.Refusal.{note_of}
 use Rattle.basics.specs.Lists.{All, listed}
 use Rattle.field.proofs.Known.{Own, own_three, own_six, own_seven, own_fifteen, own_sixteen}
-use Rattle.field.proofs.Sends.{sent_fits}
+use Rattle.field.proofs.Sends.{sent_refused}
 use Rattle.field.proofs.Opened.{opening_length}
 use Rattle.basics.specs.Limits.{disks_most, blocks_most, copies_most}
 
@@ -124,78 +119,38 @@ module _ (m : ℕ) where
         disks_length disks_most (omega arith),
       )
 
-  module _ {out : List ℕ} {at k p : ℕ} {mid : List ℕ} (e : k ≡ members disks_most m) (h : at + length (block_bytes m) ≤ length out)
-      (f : PutOne k out at p mid) where
-    count_put : Laid out at (encode k) mid p
-    count_put = put_one f (omega (arith, block_length, width_one k (omega (arith, e, count_most disks_most (has m)))))
-
-    -- behind the copy count there is room for the disks
-    pub block_room : p + length (spell_all encode (disks_of m)) ≤ length mid
-    unfolding disks_of width_of
-    block_room = omega (
-      arith,
-      e,
-      block_length,
-      count_put.place,
-      laid_length count_put,
-      width_one k (omega (arith, e, count_most disks_most (has m))),
-      disks_length disks_most (omega arith),
-    )
-
-    pub block_put : {next : ℕ} {after : List ℕ} → Laid mid p (spell_all encode (disks_of m)) after next
-        → Laid out at (block_bytes m) after next
-    unfolding block_bytes disks_of
-    block_put {next} {after} w =
-        let q : encode k ≡ encode (length (disks_below disks_most m)) = ap encode (e ∙ sym (disks_count disks_most)) in
-        subst (λ (x : List ℕ). Laid out at (x ++ spell_all encode (disks_below disks_most m)) after next) q (laid_join count_put w)
+  -- the copy count, and the disks behind it
+  pub block_put : {k : ℕ} {pen mid last : Pen} → k ≡ members disks_most m → Puts k pen mid
+      → Lays (spell_all encode (disks_of m)) mid last → Lays (block_bytes m) pen last
+  unfolding block_bytes disks_of
+  block_put {pen = pen} {mid = mid} e f w =
+      lays_join (subst (λ (k : ℕ). Lays (encode k) pen mid) (e ∙ sym (disks_count disks_most)) (lays_one f)) w
 
 -- ---- disk after disk
 
--- the disks of rest are left to be put at p: once they are, those of m stand in out from a place on
-pub record Left (m : ℕ) (out : List ℕ) (at rest : ℕ) (mid : List ℕ) (p : ℕ) : Type 0 where
-  pub fits : rest < 2 ^ 64
-  pub room : p + length (spell_all encode (disks_of rest)) ≤ length mid
-  pub same : length mid ≡ length out
-  pub whole : {after : List ℕ} {next : ℕ} → Laid mid p (spell_all encode (disks_of rest)) after next
-      → Laid out at (spell_all encode (disks_of m)) after next
+-- ds are left to be put: once they are, a pen has put the disks of m
+pub record Left (m : ℕ) (ds : List ℕ) (pen mid : Pen) : Type 0 where
+  pub small : All (λ d. d < disks_most) ds
+  pub whole : {last : Pen} → Lays (spell_all encode ds) mid last → Lays (spell_all encode (disks_of m)) pen last
 
-pub left_all : (m : ℕ) (out : List ℕ) (at : ℕ) → m < 2 ^ 64 → at + length (spell_all encode (disks_of m)) ≤ length out
-    → Left m out at m out at
-left_all m out at f h = record { fits = f; room = h; same = refl; whole = λ w. w }
+pub left_all : (m : ℕ) (pen : Pen) → Left m (disks_of m) pen pen
+left_all m pen = record { small = disks_small m; whole = λ w. w }
 
-module _ {m : ℕ} {out : List ℕ} {at rest : ℕ} {mid : List ℕ} {p : ℕ} (left : Left m out at rest mid p) where
-  -- the lowest disk is put and taken out
-  pub left_next : {d r next : ℕ} {after : List ℕ} → r < 2 ^ 64 → 0 < rest → Lowest rest d
-      → ((e : ℕ) → has r e ≡ (not (eqb e d) && has rest e)) → PutOne d mid p next after → Left m out at r after next
-  unfolding spell_all width_of
-  left_next {d} {r} {next} {after} fits some low taken put =
-      let spelled : spell_all encode (disks_of rest) ≡ encode d ++ spell_all encode (disks_of r) =
-      ap (spell_all encode) (disks_lowest rest d r left.fits some low taken) in
-      let both = ap length spelled ∙ length-append (encode d) (spell_all encode (disks_of r)) in
-      let one : Laid mid p (encode d) after next = put_one put (omega (arith, left.room, both)) in
-      record {
-        fits = fits;
-        room = omega (arith, left.room, both, one.place, laid_length one);
-        same = laid_length one ∙ left.same;
-        whole = λ {after = last} {next = end} w.
-            left.whole (subst (λ (x : List ℕ). Laid mid p x last end) (sym spelled) (laid_join one w));
-      }
+module _ {m : ℕ} {ds : List ℕ} {pen mid : Pen} (left : Left m ds pen mid) where
+  pub left_small : {d : ℕ} {rest : List ℕ} → ds ≡ d ∷ rest → d < disks_most
+  left_small e = (each_first _ e left.small).0
 
-  pub left_none : rest ≡ 0 → Laid out at (spell_all encode (disks_of m)) mid p
+  -- the first of them is put
+  pub left_next : {d : ℕ} {rest : List ℕ} {next : Pen} → ds ≡ d ∷ rest → Puts d mid next → Left m rest pen next
   unfolding spell_all
-  left_none z =
-      let none : spell_all encode (disks_of rest) ≡ [] = ap (spell_all encode) (ap disks_of z ∙ disks_zero) in
-      left.whole (subst (λ (x : List ℕ). Laid mid p x mid p) (sym none) (laid_none mid p (omega (arith, left.room))))
+  left_next e put = record {
+    small = (each_first _ e left.small).1;
+    whole = λ w. left.whole (lays_same (sym (ap (spell_all encode) e)) (lays_join (lays_one put) w));
+  }
 
--- ---- block after block
-
-module _ (ms : List ℕ) (i : ℕ) {out : List ℕ} {at : ℕ} {mid : List ℕ} {p : ℕ} where
-  pub blocks_more : {next : ℕ} {after : List ℕ} → i < length ms → Laid out at (spell_all block_bytes (take i ms)) mid p
-      → Laid mid p (block_bytes (get_or ms i 0)) after next → Laid out at (spell_all block_bytes (take (i + 1) ms)) after next
-  blocks_more {next} {after} l w f = subst (λ (x : List ℕ). Laid out at x after next) (spell_more block_bytes ms i 0 l) (laid_join w f)
-
-  pub blocks_all : Laid out at (spell_all block_bytes (take i ms)) mid p → i ≡ length ms → Laid out at (spell_all block_bytes ms) mid p
-  blocks_all w e = subst (λ (x : List ℕ). Laid out at (spell_all block_bytes x) mid p) (ap (λ (k : ℕ). take k ms) e ∙ take-length ms) w
+  pub left_none : ds ≡ [] → Lays (spell_all encode (disks_of m)) pen mid
+  unfolding spell_all
+  left_none e = left.whole (lays_same (sym (ap (spell_all encode) e)) (lays_none mid))
 
 -- ---- disks at N or above
 
@@ -340,9 +295,17 @@ module _ (k t a n q : ℕ) (d : Draft) where
       counts h.kind h.rented h.aged ∙ pick_false _ _ (ne_eqb n 0 h.known) ∙ pick_false _ _ (le-ltb disks_most n h.within)
       ∙ pick_false _ _ (le-ltb blocks_most q h.count)
 
+-- a refusal at no place, as it is told
+pub none_as : {f g : Fault} → f ≡ g → none (note_of g) ≡ none (note_of f)
+none_as e = ap (λ f. none (note_of f)) (sym e)
+
 -- another name of a draft
-pub sent_as : {d e : Draft} {out : List ℕ} {r : Written} {after : List ℕ} → d ≡ e → Sent e out r after → Sent d out r after
+pub sent_as : {d e : Draft} {out : List ℕ} {r : Result ℕ Fault} {after : List ℕ} → d ≡ e → Sent e out r after → Sent d out r after
 sent_as {d} {e} {out} {r} {after} h s = subst (λ (x : Draft). Sent x out r after) (sym h) s
+
+-- a draft that is none, where the refusal is handed on
+pub sent_stops : {d : Draft} {out : List ℕ} {r : Result ℕ Fault} {e : Fault} → r ≡ Err e → d ≡ none (note_of e) → Sent d out r out
+sent_stops {out = out} {e = e} q h = sent_as h (rw q (sent_refused e out))
 
 -- ---- block by block
 
@@ -460,16 +423,9 @@ module _ (P : Draft → Type 0) (refused : (m : ℕ) → Own m → P (none (unpl
 
 -- ---- what was judged
 
-module _ (k t a n q : ℕ) {v : Verdict} (j : Judged k t a n q v) where
-  -- whatever follows the fields: so also where it is a sheet
-  pub judged_got : v ≡ Accepted → HeadingFits k t a n q
-  unfolding Judged
-  judged_got e = let all : (d : Draft) → headed k t a n q d ≡ d = subst (Judged k t a n q) e j in
-      (headed_all k t a n q (sheet []) [] (all (sheet []))).0
-
-  pub judged_refused : {f : Fault} → v ≡ Denied f → (d : Draft) → headed k t a n q d ≡ none (note_of f)
-  unfolding Judged
-  judged_refused e = subst (Judged k t a n q) e j
+-- whatever follows the fields: so also where it is a sheet
+pub judged_got : (k t a n q : ℕ) → Judged k t a n q (Ok tt) → HeadingFits k t a n q
+judged_got k t a n q all = (headed_all k t a n q (sheet []) [] (all (sheet []))).0
 
 -- ---- the lengths
 
@@ -492,54 +448,26 @@ blocks_bound n [] a = omega arith
 blocks_bound n (m ∷ ms) a =
     omega (arith, length-append (block_bytes m) (spell_all block_bytes ms), block_length m, a.0.few, blocks_bound n ms a.1)
 
--- ---- what the count told
-
-pub sized_got : (n : ℕ) (ms : List ℕ) {r : Written} {k : ℕ} → Sized n ms r → r ≡ Length k → Counted ms k
-    × ((d : Draft) → checked n ms d ≡ d)
-unfolding Sized
-sized_got n ms s e = subst (Sized n ms) e s
-
-pub sized_refused : (n : ℕ) (ms : List ℕ) {r : Written} {e : Fault} → Sized n ms r → r ≡ Refused e → (d : Draft)
-    → checked n ms d ≡ none (note_of e)
-unfolding Sized
-sized_refused n ms s q = subst (Sized n ms) q s
-
 -- ---- room for all of it
 
 -- the length as the writer adds it up
-pub request_length : (k unit t a : ℕ) (ms : List ℕ) {w n : ℕ} → w ≡ length (heading_bytes k unit t a (length ms)) → Counted ms n
+pub request_length : (k unit t a q : ℕ) (ms : List ℕ) {w n : ℕ} → q ≡ length ms → w ≡ length (heading_bytes k unit t a q) → Counted ms n
     → length (request_bytes k unit t a ms) ≡ w + n
 unfolding request_bytes
-request_length k unit t a ms e c =
-    omega (arith, e, c.bytes, length-append (heading_bytes k unit t a (length ms)) (spell_all block_bytes ms))
+request_length k unit t a q ms s e c =
+    omega (
+      arith,
+      e,
+      ap (λ (x : ℕ). length (heading_bytes k unit t a x)) s,
+      c.bytes,
+      length-append (heading_bytes k unit t a (length ms)) (spell_all block_bytes ms),
+    )
 
--- where the heading has room, its parts have
-module _ (k unit t a q : ℕ) {out mid : List ℕ} {p : ℕ} (room : length (heading_bytes k unit t a q) ≤ length out)
-    (w : Laid out 0 (opening_bytes k unit t) mid p) where
-  rest : p + length (age_bytes k a ++ encode q) ≤ length mid
-  unfolding heading_bytes
-  rest = rest_room (age_bytes k a ++ encode q) w (omega arith)
-
-  pub age_room : p + length (age_bytes k a) ≤ length mid
-  age_room = omega (arith, rest, length-append (age_bytes k a) (encode q))
-
-  pub heading_put : {next e : ℕ} {held after : List ℕ} → Laid mid p (age_bytes k a) held next → PutOne q held next e after
-      → Laid out 0 (heading_bytes k unit t a q) after e
-  unfolding heading_bytes width_of
-  heading_put f g = laid_join w (laid_join f (put_one g (rest_room (encode q) f rest)))
-
--- where the whole request has room, its parts have
-module _ (k unit t a : ℕ) (ms out : List ℕ) (room : length (request_bytes k unit t a ms) ≤ length out) where
-  pub heading_room : length (heading_bytes k unit t a (length ms)) ≤ length out
-  unfolding request_bytes
-  heading_room = front_room (heading_bytes k unit t a (length ms)) (spell_all block_bytes ms) out room
-
-  module _ {mid : List ℕ} {p : ℕ} (w : Laid out 0 (heading_bytes k unit t a (length ms)) mid p) where
-    pub blocks_room : p + length (spell_all block_bytes ms) ≤ length mid
-    unfolding request_bytes
-    blocks_room = rest_room (spell_all block_bytes ms) w (omega arith)
-
-    pub request_sent : {after : List ℕ} {next : ℕ} → Laid mid p (spell_all block_bytes ms) after next
-        → Sent (sheet (request_bytes k unit t a ms)) out (Length next) after
-    unfolding request_bytes
-    request_sent f = sent_fits (laid_join w f)
+-- heading and blocks, from the buffer's start on
+pub request_sent : (k unit t a q : ℕ) (ms : List ℕ) {pen mid last : Pen} {after : List ℕ} → q ≡ length ms
+    → length (request_bytes k unit t a ms) ≤ length pen.out.now → Lays (heading_bytes k unit t a q) pen mid
+    → Lays (spell_all block_bytes ms) mid last → pen.at ≡ 0 → (pen.out.ghost_name ≡ last.out.ghost_name → after ≡ last.out.now)
+    → Sent (sheet (request_bytes k unit t a ms)) pen.out.now (Ok last.at) after
+unfolding request_bytes
+request_sent k unit t a q ms {pen} {mid} s room h b z e =
+    lays_sent (lays_join (subst (λ (x : ℕ). Lays (heading_bytes k unit t a x) pen mid) s h) b) z room e

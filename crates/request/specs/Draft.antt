@@ -10,10 +10,10 @@ use Rattle.basics.specs.Choice.{pick}
 use Rattle.basics.specs.Lists.{listed}
 use Rattle.number.specs.Encode.{encode}
 use Rattle.mask.specs.Count.{members}
-use Rattle.field.specs.Put.{spell_all, opening_bytes}
+use Rattle.field.specs.Put.{spell_all, opening_bytes, field_if}
 use Rattle.field.specs.Send.{Draft, sheet, none}
 use Rattle.field.specs.Sheet.{unplaced}
-use Rattle.request.specs.Disks.{disks_of}
+use Rattle.mask.specs.Disks.{disks_of}
 use Rattle.request.specs.Request.{kinds}
 
 -- the copy count and the disks, rising
@@ -22,7 +22,7 @@ block_bytes m = encode (length (disks_of m)) ++ spell_all encode (disks_of m)
 
 -- the age, a field of kind 4 alone
 unfoldable pub age_bytes : ℕ → ℕ → List ℕ
-age_bytes k a = pick (eqb k 4) (encode a) []
+age_bytes k a = field_if (eqb k 4) a
 
 -- kind, unit, tenancy, age, Q
 unfoldable pub heading_bytes : ℕ → ℕ → ℕ → ℕ → ℕ → List ℕ

@@ -6,6 +6,8 @@
 --     sweep_end           where no disk is left, the reached disks are full and closed
 --     visited_skip        a disk whose blocks can bring nothing new is as good as visited
 use Prim.Native.Nat.{ℕ, ◌-◌, ◌≤◌, ◌<◌, ◌^◌}
+use Rattle.std.specs.Prelude.{None}
+use Rattle.std.proofs.lemmas.Option.{none-some}
 use mathlib.Core.Path.{◌≡◌, refl, sym, ap, subst, ◌∙◌}
 use mathlib.Core.Logic.{⊎_elim}
 use mathlib.Core.Bool.{true, false, not, ◌&&◌, ◌||◌}
@@ -144,7 +146,7 @@ module _ {n q b base bound : ℕ} {masks seats counts : List ℕ} {room : ℕ} {
                   (add d ∙ or_left (eqb d d) (has done d) (eq-eqb d d refl)),
             )
 
-pub visited_skip : {n q b base bound d : ℕ} {masks seats out by : List ℕ} {room : ℕ} (w : ℕ) (r : Reach) → disks_most ≤ r.free → d < n
+pub visited_skip : {n q b base bound d : ℕ} {masks seats out by : List ℕ} {room : ℕ} (w : ℕ) (r : Reach) → r.free ≡ None → d < n
     → Far n q bound masks seats out → Seeks n q b base bound masks seats room by r.steps r.disks
     → ((e : ℕ) → has w e ≡ (has (get_or out d 0) e && not (has r.disks e))) → w ≡ 0
     → Visited n q b base bound d masks seats room r.disks by out r
@@ -152,7 +154,7 @@ visited_skip {n} {d = d} {out = out} w r h l f s g z =
     record {
       far = f;
       long = s.long;
-      found = λ u. let y : ⊥ = omega (arith, u, h) in absurd y;
+      found = λ f u. absurd (none-some f (sym h ∙ u));
       seeks = λ _. s;
       quiet = λ _ j a c o e t. inside_zero (get_or out d 0) r.disks w g z e
           (subst (λ (m : ℕ). has (get_or out m 0) e ≡ true) o (f.each j a c (subst (λ (m : ℕ). m < n) (sym o) l) e t));

@@ -1,3 +1,4 @@
 pub mod Search
 pub mod Outcome
 pub mod Parts
+pub mod Boards

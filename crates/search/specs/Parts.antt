@@ -7,7 +7,7 @@
 --     Visiting, Visited    one disk of a search
 --     Sought               a whole search
 --     Drawing              the way back along the steps
-use Rattle.std.specs.Prelude.{ℕ, ◌+◌, ◌^◌, ◌≤◌, ◌<◌, ◌≡◌, Bool, true, false, List, get_or, length}
+use Rattle.std.specs.Prelude.{ℕ, ◌+◌, ◌^◌, ◌≤◌, ◌<◌, ◌≡◌, Bool, true, false, Some, None, List, get_or, length}
 use Rattle.basics.specs.Limits.{disks_most, places_most}
 use Rattle.mask.specs.Has.{has}
 use Rattle.mask.specs.Count.{members}
@@ -75,11 +75,11 @@ pub record Visiting (n q b base bound d : ℕ) (masks seats next out : List ℕ)
 pub record Visited (n q b base bound d : ℕ) (masks seats : List ℕ) (room x : ℕ) (by' out' : List ℕ) (r : Reach) : Type 0 where
   pub far : Far n q bound masks seats out'
   pub long : length by' ≡ places_most
-  pub found : r.free < disks_most
-      → (r.steps ≤ places_most) × Way n q b base bound masks seats by' r.steps r.free × (has room r.free ≡ true)
-  pub seeks : disks_most ≤ r.free → Seeks n q b base bound masks seats room by' r.steps r.disks
-  pub quiet : disks_most ≤ r.free → Quiet q bound masks seats d r.disks
-  pub more : disks_most ≤ r.free → Inside x r.disks
+  pub found : (f : ℕ) → r.free ≡ Some f
+      → (r.steps ≤ places_most) × Way n q b base bound masks seats by' r.steps f × (has room f ≡ true)
+  pub seeks : r.free ≡ None → Seeks n q b base bound masks seats room by' r.steps r.disks
+  pub quiet : r.free ≡ None → Quiet q bound masks seats d r.disks
+  pub more : r.free ≡ None → Inside x r.disks
 
 -- steps that lead to a disk that has room, or the reached disks where there is none
 unfoldable pub Sought : ℕ → ℕ → ℕ → ℕ → ℕ → List ℕ → List ℕ → ℕ → List ℕ → Hit → Type 0

@@ -1,5 +1,5 @@
 // The search over disks and displaced blocks that finds room for one more block.
-// seats, counts, next, prev and out as in places; by has the blocks of a search, step by step.
+// by has the blocks of a search, step by step.
 #![tactic(auto)]
 
 ghost use Rattle.std.specs.Prelude.{◌≡◌, true, false, ℕ, length};
@@ -7,37 +7,46 @@ ghost use Rattle.basics.specs.Limits.{places_most};
 ghost use Rattle.mask.specs.Has.{has};
 ghost use Rattle.places.specs.Places.{holds};
 ghost use Rattle.places.specs.Seats.{Far};
-ghost use Rattle.search.specs.Search.{Drawn};
-ghost use Rattle.search.specs.Outcome.{Seeking, Improved};
-ghost use Rattle.search.specs.Parts.{Visiting, Visited, Sought, Drawing};
+ghost use Rattle.search.specs.Boards.{Seeking, Improved, Visiting, Visited, Sought, Drawing, Drawn};
 
-use basics::{BLOCKS, Counts, DISKS, Links, Masks, Reaches, Seats, Steps};
+use basics::{BLOCKS, Counts, Links, Masks, Reaches, Seats, Steps};
+use places::Board;
+use ring::Nodes;
 
 // What the search yields: a disk that has room with the number of steps to it, or the reached disks, all full.
-#[derive(Clone, Copy)]
+// No Result: each of the two is an answer that a caller goes on with, none is a refusal for `?` to hand on.
+#[derive(Clone, Copy, Debug, PartialEq, Eq)]
 pub enum Hit {
     Free(usize, usize),
     Stuck(u64),
 }
 
-// How far a search has come: the reached disks, the steps noted, and a disk with room, or DISKS.
+// What a search is for: block b, of q blocks on n disks. The blocks before bound are bound to their disk; the disks of base count as
+// reached, with all their blocks; those of room have room.
+// q and bound are read by contracts alone: a ghost value is picked from a call's own arguments, and no other argument tells them.
+#[derive(Clone, Copy)]
+pub struct Task {
+    pub n: usize,
+    pub q: usize,
+    pub b: usize,
+    pub base: u64,
+    pub bound: usize,
+    pub room: u64,
+}
+
+// How far a search has come: the reached disks, the steps noted, and a disk with room, if one is reached.
 #[derive(Clone, Copy)]
 struct Reach {
     disks: u64,
     steps: usize,
-    free: usize,
+    free: Option<usize>,
 }
 
 // The blocks of disk d bring the disks of their other copies, until one has room or no disk is left to bring. A step takes all new
 // disks of a block. After a whole round out[d] has no disk too many.
 fn visit(
-    n: usize,
-    q: usize,
-    b: usize,
-    base: u64,
-    bound: usize,
+    task: Task,
     d: usize,
-    room: u64,
     masks: &Masks,
     seats: &Seats,
     next: &Links,
@@ -45,15 +54,15 @@ fn visit(
     by: &mut Steps,
     reach: Reach,
 ) -> Reach
-    requires { Visiting n q b base bound d masks.now seats.now next.now out.old room by.old reach.steps reach.disks }
-    ensures { Visited n q b base bound d masks.now seats.now room reach.disks
-        by.new out.new result }
+    requires { Visiting task d masks.now seats.now next.now out.old by.old reach }
+    ensures { Visited task d masks.now seats.now reach by.new out.new result }
 {
     let mut disks = reach.disks;
     let mut steps = reach.steps;
     let mut seen: u64 = 0;
     let most = out[d];
     let mut y = next[BLOCKS + d] as usize;
+    // Along the links of a ring: no index is counted.
     while y < BLOCKS {
         let copies = masks[y];
         seen = mask::either(seen, copies);
@@ -61,12 +70,11 @@ fn visit(
         if fresh != 0 {
             by[steps] = y as u16;
             steps += 1;
-            let f = mask::lowest(mask::both(fresh, room));
-            if f < DISKS {
+            if let Some(f) = mask::lowest(mask::both(fresh, task.room)) {
                 return Reach {
                     disks,
                     steps,
-                    free: f,
+                    free: Some(f),
                 };
             }
             disks = mask::either(disks, copies);
@@ -74,7 +82,7 @@ fn visit(
                 return Reach {
                     disks,
                     steps,
-                    free: DISKS,
+                    free: None,
                 };
             }
         }
@@ -84,53 +92,44 @@ fn visit(
     Reach {
         disks,
         steps,
-        free: DISKS,
+        free: None,
     }
 }
 
-// From block b, over the disks of its copies and the blocks there, to a disk with room. The disks of base count as reached, with all
-// their blocks.
+// From block b, over the disks of its copies and the blocks there, to a disk with room. Of a board, out alone changes: so its parts are
+// lent one by one, here and in `visit`, and what does not change needs no clause.
 fn seek(
-    n: usize,
-    q: usize,
-    b: usize,
-    base: u64,
-    bound: usize,
-    room: u64,
+    task: Task,
     masks: &Masks,
     seats: &Seats,
     counts: &Counts,
-    next: &Links,
-    prev: &Links,
+    nodes: &Nodes,
     out: &mut Reaches,
     by: &mut Steps,
 ) -> Hit
-    requires { Seeking n q b base bound masks.now seats.now counts.now room next.now prev.now out.old by.old
-        × ((e : ℕ) → holds masks.now b e ≡ true → has room e ≡ false) }
-    ensures { Sought n q b base bound masks.now seats.now room by.new result
-        × (Far n q bound masks.now seats.now out.new) × (length by.new ≡ places_most) }
+    requires { Seeking task masks.now
+        (record { seats = seats.now; counts = counts.now; nodes = nodes.now; out = out.old }) by.old
+        × ((e : ℕ) → holds masks.now task.b e ≡ true → has task.room e ≡ false) }
+    ensures { Sought task masks.now seats.now by.new result
+        × (Far task.n task.q task.bound masks.now seats.now out.new) × (length by.new ≡ places_most) }
 {
-    by[0] = b as u16;
-    let mut done = base;
+    by[0] = task.b as u16;
+    let mut done = task.base;
     let mut reach = Reach {
-        disks: mask::either(base, masks[b]),
+        disks: mask::either(task.base, masks[task.b]),
         steps: 1,
-        free: DISKS,
+        free: None,
     };
+    // The labelled loop is document 01's form of the search; it counts nothing.
     let hit = 'search: loop {
-        let rest = mask::without(reach.disks, done);
-        if rest == 0 {
+        let Some(d) = mask::lowest(mask::without(reach.disks, done)) else {
             break 'search Hit::Stuck(reach.disks);
-        }
-        let d = mask::lowest(rest);
+        };
         done = mask::put(done, d);
         if mask::without(out[d], reach.disks) != 0 {
-            reach = visit(
-                n, q, b, base, bound, d, room, masks, seats, next, out, by, reach,
-            );
+            reach = visit(task, d, masks, seats, &nodes.next, out, by, reach);
         }
-        let f = reach.free;
-        if f < DISKS {
+        if let Some(f) = reach.free {
             break 'search Hit::Free(f, reach.steps);
         }
     };
@@ -139,102 +138,53 @@ fn seek(
 
 // Back along the steps from a disk with room: the next block from elsewhere that has a copy there goes there, and leaves room where
 // it was.
-fn pull(
-    n: usize,
-    q: usize,
-    b: usize,
-    base: u64,
-    bound: usize,
-    start: usize,
-    steps: usize,
-    masks: &Masks,
-    by: &Steps,
-    seats: &mut Seats,
-    counts: &mut Counts,
-    next: &mut Links,
-    prev: &mut Links,
-    out: &mut Reaches,
-)
-    requires { Drawing n q b base bound start steps masks.now by.now seats.old counts.old next.old prev.old out.old }
-    ensures { Drawn n q b base bound start masks.now seats.old counts.old seats.new
-        counts.new next.new prev.new out.new }
+fn pull(task: Task, start: usize, steps: usize, masks: &Masks, by: &Steps, board: &mut Board)
+    requires { Drawing task start steps masks.now by.now board.old }
+    ensures { Drawn task start masks.now board.old board.new }
 {
     let mut d = start;
     let mut k = steps;
-    while d != n {
+    // No `for` over the steps: the way ends where d is n, at a step that no count tells, and a `for` would test that all the same.
+    while d != task.n {
         k -= 1;
         let y = by[k] as usize;
-        if seats[y] as usize != d {
+        if board.seats[y] as usize != d {
             if mask::held(masks[y], d) {
-                d = places::shift(y, d, masks, seats, counts, next, prev, out);
+                d = board.shift(y, d, masks);
             }
         }
     }
 }
 
 // Block b, which is on no disk and whose copies have no room, on a disk all the same; or the reached disks, where there is no way.
-pub fn displace(
-    n: usize,
-    q: usize,
-    b: usize,
-    base: u64,
-    bound: usize,
-    room: u64,
-    masks: &Masks,
-    seats: &mut Seats,
-    counts: &mut Counts,
-    next: &mut Links,
-    prev: &mut Links,
-    out: &mut Reaches,
-    by: &mut Steps,
-) -> Hit
-    requires { Seeking n q b base bound masks.now seats.old counts.old room next.old prev.old out.old by.old
-        × ((e : ℕ) → holds masks.now b e ≡ true → has room e ≡ false) }
-    ensures { Improved n q b base bound masks.now seats.old counts.old room next.old
-        prev.old seats.new counts.new next.new prev.new
-        out.new by.new result }
+pub fn displace(task: Task, masks: &Masks, board: &mut Board, by: &mut Steps) -> Hit
+    requires { Seeking task masks.now board.old by.old
+        × ((e : ℕ) → holds masks.now task.b e ≡ true → has task.room e ≡ false) }
+    ensures { Improved task masks.now board.old board.new by.new result }
 {
     let hit = seek(
-        n, q, b, base, bound, room, masks, seats, counts, next, prev, out, by,
+        task,
+        masks,
+        &board.seats,
+        &board.counts,
+        &board.nodes,
+        &mut board.out,
+        by,
     );
-    match hit {
-        Hit::Free(d, steps) => {
-            pull(
-                n, q, b, base, bound, d, steps, masks, by, seats, counts, next, prev, out,
-            );
-            Hit::Free(d, steps)
-        }
-        Hit::Stuck(x) => Hit::Stuck(x),
+    if let Hit::Free(d, steps) = hit {
+        pull(task, d, steps, masks, by, board);
     }
+    hit
 }
 
 // Block b, which is on no disk, on one; or the reached disks, where there is no way.
-pub fn improve(
-    n: usize,
-    q: usize,
-    b: usize,
-    base: u64,
-    bound: usize,
-    room: u64,
-    masks: &Masks,
-    seats: &mut Seats,
-    counts: &mut Counts,
-    next: &mut Links,
-    prev: &mut Links,
-    out: &mut Reaches,
-    by: &mut Steps,
-) -> Hit
-    requires { Seeking n q b base bound masks.now seats.old counts.old room next.old prev.old out.old by.old }
-    ensures { Improved n q b base bound masks.now seats.old counts.old room next.old
-        prev.old seats.new counts.new next.new prev.new
-        out.new by.new result }
+pub fn improve(task: Task, masks: &Masks, board: &mut Board, by: &mut Steps) -> Hit
+    requires { Seeking task masks.now board.old by.old }
+    ensures { Improved task masks.now board.old board.new by.new result }
 {
-    let d = mask::lowest(mask::both(masks[b], room));
-    if d < DISKS {
-        places::shift(b, d, masks, seats, counts, next, prev, out);
+    if let Some(d) = mask::lowest(mask::both(masks[task.b], task.room)) {
+        board.shift(task.b, d, masks);
         return Hit::Free(d, 1);
     }
-    displace(
-        n, q, b, base, bound, room, masks, seats, counts, next, prev, out, by,
-    )
+    displace(task, masks, board, by)
 }

@@ -1,12 +1,13 @@
 -- A refusal that is not the first of them does not wait.
-use mathlib.Core.Path.{◌≡◌, refl}
-use mathlib.Core.Bool.{Bool, true, false, ◌&&◌}
+use mathlib.Core.Path.{◌≡◌, refl, ap}
+use mathlib.Core.Bool.{Bool, true, false, ◌&&◌, not}
 use mathlib.Core.List.{List, [], ◌∷◌}
-use mathlib.Core.Logic.{◌⊎◌, inl, inr}
+use mathlib.Core.Logic.{inl, inr}
 use Prim.Native.Nat.{ℕ, ◌<◌}
 use native.Mathlib.Omega.{arith}
 use borrow.Author.Tests.{ltb-true}
 use lib.Dec.{ltb}
+use denote.Enum.Bare.{sameb}
 use denote.Enum.Declared.{tag_of}
 use types.Run.{OneOf}
 use Rattle.basics.proofs.Tests.{both}
@@ -79,3 +80,25 @@ waits_else NotTheTenant p ended h = refl
 waits_else BadAmount p ended h = refl
 waits_else BadIndex p ended h = refl
 waits_else AllOut p ended h = refl
+
+-- as the code tells it: the first of them, and the input has not ended
+pub waits_first : (e : Refusal) (p : ℕ) (ended b : Bool) → b ≡ sameb the_type e SheetEnds
+    → (b && not ended) ≡ waits ended (note (number_of e) p)
+unfolding waits
+waits_first SheetEnds p ended b h = ap (λ x. x && not ended) h
+waits_first BadNumber p ended b h = ap (λ x. x && not ended) h
+waits_first WrongKind p ended b h = ap (λ x. x && not ended) h
+waits_first WrongUnit p ended b h = ap (λ x. x && not ended) h
+waits_first WrongTenancy p ended b h = ap (λ x. x && not ended) h
+waits_first OutOfRange p ended b h = ap (λ x. x && not ended) h
+waits_first NoCopy p ended b h = ap (λ x. x && not ended) h
+waits_first NotRising p ended b h = ap (λ x. x && not ended) h
+waits_first BytesFollow p ended b h = ap (λ x. x && not ended) h
+waits_first NoSettings p ended b h = ap (λ x. x && not ended) h
+waits_first NoRoom p ended b h = ap (λ x. x && not ended) h
+waits_first Rented p ended b h = ap (λ x. x && not ended) h
+waits_first NotAbove p ended b h = ap (λ x. x && not ended) h
+waits_first NotTheTenant p ended b h = ap (λ x. x && not ended) h
+waits_first BadAmount p ended b h = ap (λ x. x && not ended) h
+waits_first BadIndex p ended b h = ap (λ x. x && not ended) h
+waits_first AllOut p ended b h = ap (λ x. x && not ended) h

@@ -21,7 +21,7 @@ use Rattle.stream.proofs.Steady.{steady_got, steady_refused}
 use Rattle.service.specs.declared.Next.{Next}
 use Rattle.service.specs.declared.Next.TheVariants.{Served, Wants, Done as Last}
 use Rattle.service.specs.declared.Shelf.{Shelf}
-use Rattle.service.specs.Shelf.{Due, due, closed, Serves, last_line, waits, Comes}
+use Rattle.service.specs.Shelf.{Due, due, closed, opened, unit_of, Serves, last_line, waits, Comes}
 use Rattle.service.specs.Session.{Whole, Ends, Says, last, next, Turns, Fed, served, takes, told, stopped, over, SoFar}
 use Rattle.service.proofs.Turns.{due_steady, due_within, due_past, stopped_more, serves_unique, serves_sound, serves_exists}
 use Rattle.service.proofs.Turns.{turns_whole, turns_wants, turns_last}
@@ -31,8 +31,8 @@ use Rattle.service.proofs.Turns.{turns_whole, turns_wants, turns_last}
 whole_more : {sh : Shelf} {s line : List ℕ} {after : Shelf} {left : List ℕ} (r : List ℕ) → Whole sh s line after left
     → Whole sh (s ++ r) line after (left ++ r)
 whole_more {sh} {s} r w =
-    let m : (due sh.opened (s ++ r) 0 ≡ got w.what w.end)
-    × (w.end ≤ length s) = steady_got (due_steady sh.opened) s r w.read in
+    let m : (due (opened sh) (s ++ r) 0 ≡ got w.what w.end)
+    × (w.end ≤ length s) = steady_got (due_steady (opened sh)) s r w.read in
     record {
       what = w.what;
       end = w.end;
@@ -45,8 +45,8 @@ ends_more : {sh : Shelf} {s text : List ℕ} (r : List ℕ) (e : Ends sh s text)
 ends_more {sh} {s} r e z =
     record {
       why = e.why;
-      read = steady_refused (due_steady sh.opened) s r e.read z;
-      line = e.line ∙ stopped_more sh.opened s r e.why e.read z;
+      read = steady_refused (due_steady (opened sh)) s r e.read z;
+      line = e.line ∙ stopped_more (opened sh) s r e.why e.read z;
     }
 
 -- the number with which the stream stops
@@ -81,7 +81,7 @@ ends_unique : (sh : Shelf) (s x y : List ℕ) → Ends sh s x → Ends sh s y �
 ends_unique sh s x y p q =
     let h : refused p.why ≡ refused q.why = sym p.read ∙ q.read in
     let n : p.why ≡ q.why = cc in
-    p.line ∙ ap (last_line sh.opened s) n ∙ sym q.line
+    p.line ∙ ap (last_line (opened sh) s) n ∙ sym q.line
 
 pub says_unique : (sh : Shelf) (s x y : List ℕ) → Says sh s x → Says sh s y → x ≡ y
 says_unique sh s x y (last e) (last f) = ends_unique sh s x y e f
@@ -128,39 +128,39 @@ size s ended pieces = length s + length (flatten pieces) + length pieces + pick 
 
 -- of all that takes fewer than so many steps
 abbrev Every : ℕ → Type 0
-Every k = (sh : Shelf) (s : List ℕ) (ended : Bool) (pieces : List (List ℕ)) → Sound sh.unit → (ended ≡ true → pieces ≡ [])
+Every k = (sh : Shelf) (s : List ℕ) (ended : Bool) (pieces : List (List ℕ)) → Sound (unit_of sh) → (ended ≡ true → pieces ≡ [])
     → size s ended pieces < k → (text : List ℕ) × Fed sh s ended pieces text
 
 turns_as : (sh : Shelf) (s : List ℕ) (ended : Bool) (n : Next) (used : ℕ) (line : List ℕ) (after : Shelf) {o : Out Due}
-    → due sh.opened s 0 ≡ o → Comes sh s ended o n used line after → Turns sh s ended n used line after
+    → due (opened sh) s 0 ≡ o → Comes sh s ended o n used line after → Turns sh s ended n used line after
 turns_as sh s ended n used line after h c = record { comes = subst (λ (x : Out Due). Comes sh s ended x n used line after) (sym h) c }
 
 waits_ended : (n : Note) → waits true n ≡ false
 unfolding waits
 waits_ended n = by_cases (eqb n.number 1) (λ t. ap (λ (b : Bool). b && false) t) (λ f. ap (λ (b : Bool). b && false) f)
 
-module _ (sh : Shelf) (s : List ℕ) (h : Sound sh.unit) where
+module _ (sh : Shelf) (s : List ℕ) (h : Sound (unit_of sh)) where
   -- nothing whole stands there
-  module _ (ended : Bool) (n : Note) (q : due sh.opened s 0 ≡ refused n) where
+  module _ (ended : Bool) (n : Note) (q : due (opened sh) s 0 ≡ refused n) where
     wanting : waits ended n ≡ true → Turns sh s ended Wants 0 [] sh
     unfolding Comes
     wanting t = turns_as sh s ended Wants 0 [] sh q (sym (pick_true _ _ t), refl, sym (pick_true _ _ t), refl)
 
-    ending : waits ended n ≡ false → Turns sh s ended Last 0 (last_line sh.opened s n) sh
+    ending : waits ended n ≡ false → Turns sh s ended Last 0 (last_line (opened sh) s n) sh
     unfolding Comes
     ending f = turns_as sh s ended Last 0 _ sh q (sym (pick_false _ _ f), refl, sym (pick_false _ _ f), refl)
 
   module _ (k : ℕ) (every : Every k) where
-    on_got : (ended : Bool) (pieces : List (List ℕ)) (d : Due) (e : ℕ) → due sh.opened s 0 ≡ got d e → (ended ≡ true → pieces ≡ [])
+    on_got : (ended : Bool) (pieces : List (List ℕ)) (d : Due) (e : ℕ) → due (opened sh) s 0 ≡ got d e → (ended ≡ true → pieces ≡ [])
         → size s ended pieces < suc k → (text : List ℕ) × Fed sh s ended pieces text
     unfolding Comes size
     on_got ended pieces d e q z l =
         let w = serves_exists sh d h in
         let f = every w.1 (drop e s) ended pieces (serves_sound sh d w.0 w.1 h w.2) z
-        (omega (arith, length-drop e s, due_within sh.opened s q, due_past sh.opened s q)) in
+        (omega (arith, length-drop e s, due_within (opened sh) s q, due_past (opened sh) s q)) in
         (w.0 ++ f.0, served (turns_as sh s ended Served e w.0 w.1 q (refl, refl, w.2)) f.1)
 
-    on_refused : (ended : Bool) (pieces : List (List ℕ)) (n : Note) → due sh.opened s 0 ≡ refused n → (ended ≡ true → pieces ≡ [])
+    on_refused : (ended : Bool) (pieces : List (List ℕ)) (n : Note) → due (opened sh) s 0 ≡ refused n → (ended ≡ true → pieces ≡ [])
         → size s ended pieces < suc k → (text : List ℕ) × Fed sh s ended pieces text
     unfolding size flatten pick
     on_refused true pieces n q z l =
@@ -177,28 +177,28 @@ module _ (sh : Shelf) (s : List ℕ) (h : Sound sh.unit) where
         (f.0, takes (wanting false n q t) f.1))
         (λ f. (_, stopped (ending false n q f)))
 
-    on_all : (o : Out Due) → due sh.opened s 0 ≡ o → (ended : Bool) (pieces : List (List ℕ)) → (ended ≡ true → pieces ≡ [])
+    on_all : (o : Out Due) → due (opened sh) s 0 ≡ o → (ended : Bool) (pieces : List (List ℕ)) → (ended ≡ true → pieces ≡ [])
         → size s ended pieces < suc k → (text : List ℕ) × Fed sh s ended pieces text
     on_all (got d e) q ended pieces z l = on_got ended pieces d e q z l
     on_all (refused n) q ended pieces z l = on_refused ended pieces n q z l
 
 every : (k : ℕ) → Every k
 every zero sh s ended pieces h z l = absurd (omega arith)
-every (suc k) sh s ended pieces h z l = on_all sh s h k (every k) (due sh.opened s 0) refl ended pieces z l
+every (suc k) sh s ended pieces h z l = on_all sh s h k (every k) (due (opened sh) s 0) refl ended pieces z l
 
 -- whatever the pieces, the loop comes to an end
-pub fed_exists : (sh : Shelf) (pieces : List (List ℕ)) → Sound sh.unit → (text : List ℕ) × Fed sh [] false pieces text
+pub fed_exists : (sh : Shelf) (pieces : List (List ℕ)) → Sound (unit_of sh) → (text : List ℕ) × Fed sh [] false pieces text
 fed_exists sh pieces h =
     every (suc (size [] false pieces)) sh [] false pieces h (λ x. absurd (let y : ◌≡◌ {A = ℕ} 0 1 = cc in omega arith)) (omega arith)
 
-pub says_exists : (sh : Shelf) (s : List ℕ) → Sound sh.unit → (text : List ℕ) × Says sh s text
+pub says_exists : (sh : Shelf) (s : List ℕ) → Sound (unit_of sh) → (text : List ℕ) × Says sh s text
 unfolding flatten
 says_exists sh s h =
     let w = every (suc (size s true [])) sh s true [] h (λ _. refl) (omega arith) in
     (w.0, subst (λ (x : List ℕ). Says sh x w.0) (append-nil s) (fed_says w.1))
 
 -- what all the pieces say together is what is printed for them
-pub says_fed : (sh : Shelf) (pieces : List (List ℕ)) (text : List ℕ) → Sound sh.unit → Says sh (flatten pieces) text
+pub says_fed : (sh : Shelf) (pieces : List (List ℕ)) (text : List ℕ) → Sound (unit_of sh) → Says sh (flatten pieces) text
     → Fed sh [] false pieces text
 says_fed sh pieces text h p =
     let w = fed_exists sh pieces h in
@@ -206,8 +206,7 @@ says_fed sh pieces text h p =
 
 -- ---- the loop, turn by turn
 
-pub closed_sound : Sound closed.unit
-unfolding closed
+pub closed_sound : Sound (unit_of closed)
 closed_sound = sound_new 0
 
 -- nothing is read yet

@@ -24,8 +24,7 @@ use Rattle.unit.specs.Sound.{Sound}
 use Rattle.unit.specs.Unit.{new_unit}
 use Rattle.hire.proofs.Runs.{does_unique, does_sound, runs_exist}
 use Rattle.unit.proofs.Sound.{sound_new}
-use Rattle.line.specs.declared.Word.TheVariants.{Stopped}
-use Rattle.line.specs.Line.{spoken}
+use Rattle.line.specs.Line.{stopped_text}
 use Rattle.line.proofs.Adding.{printed_unique}
 use Rattle.line.proofs.Lines.{printed_same}
 use Rattle.stream.specs.Call.{call_most, asked}
@@ -36,56 +35,56 @@ use Rattle.service.specs.declared.Next.{Next}
 use Rattle.service.specs.declared.Next.TheVariants.{Served, Wants, Done as Last}
 use Rattle.service.specs.declared.Shelf.{Shelf}
 use Rattle.service.specs.declared.Turn.{Turn}
-use Rattle.service.specs.Shelf.{Due, opens, asks, due, shelf_of, call_of, line_of, Serves, last_line, waits, Comes, Turned}
+use Rattle.service.specs.Shelf.{Due, opens, asks, due, opened, unit_of, shelf_of, call_of, line_of, Serves, last_line, waits, Comes, Turned}
 use Rattle.service.specs.Session.{Whole, Ends, Turns}
 
 -- ---- what is due
 
 -- more bytes change only an answer of 1
-pub due_steady : (opened : Bool) → Steady (due opened)
+pub due_steady : (is_open : Bool) → Steady (due is_open)
 unfolding due
 due_steady true = steady_bind asked_steady (λ a. steady_pure (asks a))
 due_steady false = steady_bind number_steady (λ n. steady_pure (opens n))
 
 -- what is due ends within the bytes
-pub due_within : (opened : Bool) (s : List ℕ) {d : Due} {e : ℕ} → due opened s 0 ≡ got d e → e ≤ length s
-due_within opened s h = (steady_got (due_steady opened) s [] h).1
+pub due_within : (is_open : Bool) (s : List ℕ) {d : Due} {e : ℕ} → due is_open s 0 ≡ got d e → e ≤ length s
+due_within is_open s h = (steady_got (due_steady is_open) s [] h).1
 
 bind_refused : {A : Type 0} (o : Out A) (f : A → Due) (n : Note) → and_then o (λ a e. got (f a) e) ≡ refused n → o ≡ refused n
 unfolding and_then
 bind_refused (got a e) f n q = absurd (let z : ◌≡◌ {A = ℕ} 0 1 = cc in omega arith)
 bind_refused (refused m) f n q = let e : m ≡ n = cc in ap refused e
 
-pub due_longest : (opened : Bool) (s : List ℕ) (n : Note) → due opened s 0 ≡ refused n → n.number ≡ 1 → length s < call_most
+pub due_longest : (is_open : Bool) (s : List ℕ) (n : Note) → due is_open s 0 ≡ refused n → n.number ≡ 1 → length s < call_most
 unfolding due ◌>>=◌ pure
 due_longest true s n q one = asked_longest s (bind_refused (asked s 0) asks n q) one
 due_longest false s n q one = omega (arith, number_longest s (bind_refused (number s 0) opens n q) one)
 
 -- what is due uses at least one byte
-pub due_past : (opened : Bool) (s : List ℕ) {d : Due} {e : ℕ} → due opened s 0 ≡ got d e → 1 ≤ e
+pub due_past : (is_open : Bool) (s : List ℕ) {d : Due} {e : ℕ} → due is_open s 0 ≡ got d e → 1 ≤ e
 unfolding Past due ◌>>=◌ pure
 due_past true s {d} {e} h = subst (Past 1) h (then_past 1 (asked s 0) (λ a n. got (asks a) n) (asked_past s) (λ a n. omega arith))
 due_past false s {d} {e} h = subst (Past 1) h (then_past 1 (number s 0) (λ m n. got (opens m) n) (number_past s 0) (λ m n. omega arith))
 
 -- where nothing stands there, more bytes are due
-due_none : (opened : Bool) → due opened [] 0 ≡ refused (note 1 0)
+due_none : (is_open : Bool) → due is_open [] 0 ≡ refused (note 1 0)
 unfolding due ◌>>=◌ and_then asked number taken decode pick
 due_none true = refl
 due_none false = refl
 
-some_line : (opened : Bool) (s : List ℕ) (n : Note) → 0 < length s → last_line opened s n ≡ spoken (Stopped n.number)
+some_line : (is_open : Bool) (s : List ℕ) (n : Note) → 0 < length s → last_line is_open s n ≡ stopped_text n.number
 unfolding last_line
 some_line true s n l = pick_false _ _ (ne_eqb (length s) 0 (λ q. omega arith))
 some_line false s n l = pick_false _ _ refl
 
 -- a stream that is damaged stays so, with the same line
-pub stopped_more : (opened : Bool) (s r : List ℕ) (n : Note) → due opened s 0 ≡ refused n → (n.number ≡ 1 → ⊥)
-    → last_line opened s n ≡ last_line opened (s ++ r) n
-stopped_more opened [] r n h z =
-    let q : refused n ≡ refused (note 1 0) = sym h ∙ due_none opened in
+pub stopped_more : (is_open : Bool) (s r : List ℕ) (n : Note) → due is_open s 0 ≡ refused n → (n.number ≡ 1 → ⊥)
+    → last_line is_open s n ≡ last_line is_open (s ++ r) n
+stopped_more is_open [] r n h z =
+    let q : refused n ≡ refused (note 1 0) = sym h ∙ due_none is_open in
     let m : n ≡ note 1 0 = cc in
     absurd (z (ap (λ (x : Note). x.number) m))
-stopped_more opened (b ∷ s) r n h z = some_line opened (b ∷ s) n (omega arith) ∙ sym (some_line opened (b ∷ s ++ r) n (omega arith))
+stopped_more is_open (b ∷ s) r n h z = some_line is_open (b ∷ s) n (omega arith) ∙ sym (some_line is_open (b ∷ s ++ r) n (omega arith))
 
 -- ---- what a turn leaves
 
@@ -120,16 +119,16 @@ not_true true q = sym q
 not_true false q = refl
 
 module _ (sh : Shelf) (s : List ℕ) (ended : Bool) (used : ℕ) (line : List ℕ) (after : Shelf) where
-  whole_at : (o : Out Due) → due sh.opened s 0 ≡ o → Comes sh s ended o Served used line after
+  whole_at : (o : Out Due) → due (opened sh) s 0 ≡ o → Comes sh s ended o Served used line after
       → Whole sh s line after (drop used s) × (used ≤ length s)
   unfolding Comes
   whole_at (got d e) h c = (
     record { what = d; end = e; read = h; done = c.2; rest = ap (λ (k : ℕ). drop k s) c.1 },
-    omega (arith, c.1, due_within sh.opened s h),
+    omega (arith, c.1, due_within (opened sh) s h),
   )
   whole_at (refused n) h c = absurd (not_served (waits ended n) c.0)
 
-  wants_at : (o : Out Due) → due sh.opened s 0 ≡ o → Comes sh s ended o Wants used line after → Waiting sh s ended line after
+  wants_at : (o : Out Due) → due (opened sh) s 0 ≡ o → Comes sh s ended o Wants used line after → Waiting sh s ended line after
   unfolding Comes waits
   wants_at (got d e) h c = absurd (let q : Wants ≡ Served = c.0 in let z : ◌≡◌ {A = ℕ} 0 1 = cc in omega arith)
   wants_at (refused n) h c =
@@ -139,10 +138,10 @@ module _ (sh : Shelf) (s : List ℕ) (ended : Bool) (used : ℕ) (line : List �
         silent = c.2 ∙ pick_true _ _ t;
         same = c.3;
         going = not_true ended p.1;
-        few = due_longest sh.opened s n h (eqb-true n.number 1 p.0);
+        few = due_longest (opened sh) s n h (eqb-true n.number 1 p.0);
       }
 
-  last_at : (o : Out Due) → due sh.opened s 0 ≡ o → Comes sh s ended o Last used line after → Final sh s ended line
+  last_at : (o : Out Due) → due (opened sh) s 0 ≡ o → Comes sh s ended o Last used line after → Final sh s ended line
   unfolding Comes waits
   last_at (got d e) h c = absurd (let q : Last ≡ Served = c.0 in let z : ◌≡◌ {A = ℕ} 0 1 = cc in omega arith)
   last_at (refused n) h c =
@@ -156,21 +155,21 @@ module _ (sh : Shelf) (s : List ℕ) (ended : Bool) (used : ℕ) (line : List �
 
 module _ {sh : Shelf} {s : List ℕ} {ended : Bool} {used : ℕ} {line : List ℕ} {after : Shelf} where
   pub turns_whole : Turns sh s ended Served used line after → Whole sh s line after (drop used s)
-  turns_whole t = (whole_at sh s ended used line after (due sh.opened s 0) refl t.comes).0
+  turns_whole t = (whole_at sh s ended used line after (due (opened sh) s 0) refl t.comes).0
 
   -- the bytes used are there
   pub turns_used : Turns sh s ended Served used line after → used ≤ length s
-  turns_used t = (whole_at sh s ended used line after (due sh.opened s 0) refl t.comes).1
+  turns_used t = (whole_at sh s ended used line after (due (opened sh) s 0) refl t.comes).1
 
   pub turns_wants : Turns sh s ended Wants used line after → Waiting sh s ended line after
-  turns_wants t = wants_at sh s ended used line after (due sh.opened s 0) refl t.comes
+  turns_wants t = wants_at sh s ended used line after (due (opened sh) s 0) refl t.comes
 
   pub turns_last : Turns sh s ended Last used line after → Final sh s ended line
-  turns_last t = last_at sh s ended used line after (due sh.opened s 0) refl t.comes
+  turns_last t = last_at sh s ended used line after (due (opened sh) s 0) refl t.comes
 
 -- what `serve` promises is a turn
 pub turned_turns : {sh : Shelf} {s : List ℕ} {ended : Bool} {out after : List ℕ} (r : Turn)
-    (w : Turned sh s ended (due sh.opened s 0) out r after) {n : Next} → r.next ≡ n
+    (w : Turned sh s ended (due (opened sh) s 0) out r after) {n : Next} → r.next ≡ n
     → Turns sh s ended n r.used w.line r.shelf
 turned_turns {sh} {s} {ended} r w q =
     subst (λ (x : Next). Turns sh s ended x r.used w.line r.shelf) q (record { comes = w.comes })
@@ -180,20 +179,21 @@ turned_turns {sh} {s} {ended} r w q =
 first_reply : {u v : Unit} {c : Call} {rs : List Reply} → Runs u (c ∷ []) rs v → (r : Reply) × (w : Unit) × Does u c r w
 first_reply (replies {v = w} {r = r} d p) = (r, w, d)
 
-pub serves_exists : (sh : Shelf) (d : Due) → Sound sh.unit → (line : List ℕ) × (after : Shelf) × Serves sh d line after
+pub serves_exists : (sh : Shelf) (d : Due) → Sound (unit_of sh) → (line : List ℕ) × (after : Shelf) × Serves sh d line after
 unfolding Serves
 serves_exists sh (opens n) h = ([], shelf_of (new_unit n), (refl, refl))
 serves_exists sh (asks a) h =
-    let w = first_reply (runs_exist sh.unit (call_of a ∷ []) h).2 in
+    let w = first_reply (runs_exist (unit_of sh) (call_of a ∷ []) h).2 in
     (line_of a w.0, shelf_of w.1, (w.0, w.1, w.2, refl, refl))
 
 -- ---- a sound unit stays sound
 
-pub serves_sound : (sh : Shelf) (d : Due) (line : List ℕ) (after : Shelf) → Sound sh.unit → Serves sh d line after → Sound after.unit
-unfolding Serves shelf_of
-serves_sound sh (opens n) line after h w = subst (λ (x : Shelf). Sound x.unit) (sym w.1) (sound_new n)
+pub serves_sound : (sh : Shelf) (d : Due) (line : List ℕ) (after : Shelf) → Sound (unit_of sh) → Serves sh d line after
+    → Sound (unit_of after)
+unfolding Serves
+serves_sound sh (opens n) line after h w = subst (λ (x : Shelf). Sound (unit_of x)) (sym w.1) (sound_new n)
 serves_sound sh (asks a) line after h w =
-    subst (λ (x : Shelf). Sound x.unit) (sym w.4) (does_sound sh.unit (call_of a) w.0 w.1 w.2 h)
+    subst (λ (x : Shelf). Sound (unit_of x)) (sym w.4) (does_sound (unit_of sh) (call_of a) w.0 w.1 w.2 h)
 
 -- ---- there is no second answer
 
@@ -201,7 +201,7 @@ pub serves_unique : (sh : Shelf) (d : Due) (x y : List ℕ) (a b : Shelf) → Se
 unfolding Serves
 serves_unique sh (opens n) x y a b p q = (p.0 ∙ sym q.0, p.1 ∙ sym q.1)
 serves_unique sh (asks c) x y a b p q =
-    let n : (p.0 ≡ q.0) × (p.1 ≡ q.1) = does_unique sh.unit (call_of c) p.0 q.0 p.1 q.1 p.2 q.2 in
+    let n : (p.0 ≡ q.0) × (p.1 ≡ q.1) = does_unique (unit_of sh) (call_of c) p.0 q.0 p.1 q.1 p.2 q.2 in
     (p.3 ∙ ap (line_of c) n.0 ∙ sym q.3, p.4 ∙ ap shelf_of n.1 ∙ sym q.4)
 
 comes_unique : (sh : Shelf) (s : List ℕ) (ended : Bool) (o : Out Due) (m n : Next) (i j : ℕ) (x y : List ℕ) (a b : Shelf)

@@ -10,26 +10,26 @@ use Rattle.field.specs.Sheet.{Note, got, refused}
 use Rattle.service.specs.declared.Next.{Next}
 use Rattle.service.specs.declared.Next.TheVariants.{Served, Wants, Done}
 use Rattle.service.specs.declared.Shelf.{Shelf}
-use Rattle.service.specs.Shelf.{Due, due, closed, Serves, last_line, Comes}
+use Rattle.service.specs.Shelf.{Due, due, closed, opened, Serves, last_line, Comes}
 
 pub record Whole (sh : Shelf) (s line : List ℕ) (after : Shelf) (left : List ℕ) : Type 0 where
   pub what : Due
   pub end : ℕ
-  pub read : due sh.opened s 0 ≡ got what end
+  pub read : due (opened sh) s 0 ≡ got what end
   pub done : Serves sh what line after
   pub rest : left ≡ drop end s
 
 pub record Ends (sh : Shelf) (s last : List ℕ) : Type 0 where
   pub why : Note
-  pub read : due sh.opened s 0 ≡ refused why
-  pub line : last ≡ last_line sh.opened s why
+  pub read : due (opened sh) s 0 ≡ refused why
+  pub line : last ≡ last_line (opened sh) s why
 
 pub data Says : Shelf → List ℕ → List ℕ → Type 0 where
   last : {sh : Shelf} {s text : List ℕ} → Ends sh s text → Says sh s text
   next : {sh after : Shelf} {s line left text : List ℕ} → Whole sh s line after left → Says after left text → Says sh s (line ++ text)
 
 pub record Turns (sh : Shelf) (s : List ℕ) (ended : Bool) (to : Next) (used : ℕ) (line : List ℕ) (after : Shelf) : Type 0 where
-  pub comes : Comes sh s ended (due sh.opened s 0) to used line after
+  pub comes : Comes sh s ended (due (opened sh) s 0) to used line after
 
 -- by the shelf, what is left of the bytes that came, whether it was told that the input has ended, and the pieces to come:
 -- a turn that is served leaves the bytes behind it; one that wants more takes the next piece, or is told that none follows;

@@ -1,10 +1,11 @@
 -- One turn of the shelf: what stands next in the bytes that have been read, its line, and the shelf afterwards.
 --     Due, due            what stands next: the unit's number, and then its calls
+--     opened, unit_of     whether the unit's number was read; the unit, a new one until then
 --     call_of, line_of      the call to the unit; the line of its reply
 --     Serves              what is due is done: its line, and the shelf afterwards
 --     last_line            the line where nothing whole stands there and nothing follows
 --     Comes, Turned       what a turn comes to; the promise: its line stands in the buffer
-use Rattle.std.specs.Prelude.{ℕ, Bool, true, false, ◌&&◌, not, ◌≡◌, List, [], eqb, length, take, replicate}
+use Rattle.std.specs.Prelude.{ℕ, Bool, true, false, ◌&&◌, not, ◌≡◌, List, [], Option, None, Some, eqb, length, take, replicate}
 use Rattle.basics.specs.Choice.{pick}
 use Rattle.field.specs.Field.{number}
 use Rattle.field.specs.Sheet.{Note, Out, got, refused, Parser, ◌>>=◌, pure}
@@ -12,11 +13,11 @@ use Rattle.unit.specs.declared.Unit.{Unit}
 use Rattle.hire.specs.Calls.{Call, renting, setting, asking, returning, explaining, Reply, said, planned, explained, Does}
 use Rattle.unit.specs.Life.{accepted, refused as denied}
 use Rattle.unit.specs.Unit.{new_unit}
-use Rattle.line.specs.declared.Word.TheVariants.{Rented, Set, Returned, RefusedAt, Stopped, Reason}
-use Rattle.line.specs.Line.{spoken, sheet_line}
+use Rattle.line.specs.declared.Word.TheVariants.{Rented, Set, Returned, Reason}
+use Rattle.line.specs.Line.{spoken, refused_at_text, stopped_text, sheet_line}
 use Rattle.line.specs.Printed.{Printed}
 use Rattle.stream.specs.Call.{Asked, rents, sets, requests, returns, whys, asked}
-use Rattle.why.specs.Why.{numbered, timed}
+use Rattle.reason.specs.Reason.{numbered, timed}
 use Rattle.service.specs.declared.Next.{Next}
 use Rattle.service.specs.declared.Next.TheVariants.{Served, Wants, Done}
 use Rattle.service.specs.declared.Shelf.{Shelf}
@@ -36,11 +37,27 @@ due false = do
   pure (opens n)
 
 -- a shelf of which nothing was read, and one whose unit has its number
-unfoldable pub closed : Shelf
-closed = record { unit = new_unit 0; opened = false }
+abbrev pub closed : Shelf
+closed = record { unit = None }
 
-unfoldable pub shelf_of : Unit → Shelf
-shelf_of u = record { unit = u; opened = true }
+abbrev pub shelf_of : Unit → Shelf
+shelf_of u = record { unit = Some u }
+
+-- whether the unit's number was read
+abbrev pub is_there : Option Unit → Bool
+is_there None = false
+is_there (Some u) = true
+
+abbrev pub opened : Shelf → Bool
+opened sh = is_there sh.unit
+
+-- the unit; before its number was read, a new one
+abbrev pub or_new : Option Unit → Unit
+or_new None = new_unit 0
+or_new (Some u) = u
+
+abbrev pub unit_of : Shelf → Unit
+unit_of sh = or_new sh.unit
 
 -- for a plan so many bytes are lent
 unfoldable pub call_of : Asked → Call
@@ -61,20 +78,20 @@ accepted_line (whys b d s) = []
 -- a word, the plan sheet in hex, the reason with its time, or the refusal with its place
 unfoldable pub line_of : Asked → Reply → List ℕ
 line_of a (said accepted) = accepted_line a
-line_of a (said (denied n)) = spoken (RefusedAt n.number n.place)
+line_of a (said (denied n)) = refused_at_text n.number n.place
 line_of a (planned (got x n) bytes) = sheet_line (take n bytes)
-line_of a (planned (refused n) bytes) = spoken (RefusedAt n.number n.place)
+line_of a (planned (refused n) bytes) = refused_at_text n.number n.place
 line_of a (explained (got r e)) = spoken (Reason (numbered r) (timed r))
-line_of a (explained (refused n)) = spoken (RefusedAt n.number n.place)
+line_of a (explained (refused n)) = refused_at_text n.number n.place
 
 -- the unit's number has no line
 unfoldable pub Serves : Shelf → Due → List ℕ → Shelf → Type 0
 Serves sh (opens n) line after = (line ≡ []) × (after ≡ shelf_of (new_unit n))
-Serves sh (asks a) line after = (r : Reply) × (u : Unit) × Does sh.unit (call_of a) r u × (line ≡ line_of a r) × (after ≡ shelf_of u)
+Serves sh (asks a) line after = (r : Reply) × (u : Unit) × Does (unit_of sh) (call_of a) r u × (line ≡ line_of a r) × (after ≡ shelf_of u)
 
 -- none where the input ends between two calls; else the stream is damaged, by 1 where it is not whole
 unfoldable pub last_line : Bool → List ℕ → Note → List ℕ
-last_line opened s n = pick (opened && eqb (length s) 0) [] (spoken (Stopped n.number))
+last_line is_open s n = pick (is_open && eqb (length s) 0) [] (stopped_text n.number)
 
 -- what was refused with 1 waits for more bytes, unless the input has ended
 unfoldable pub waits : Bool → Note → Bool
@@ -83,7 +100,7 @@ waits ended n = eqb n.number 1 && not ended
 unfoldable pub Comes : Shelf → List ℕ → Bool → Out Due → Next → ℕ → List ℕ → Shelf → Type 0
 Comes sh s ended (got d e) next used line after = (next ≡ Served) × (used ≡ e) × Serves sh d line after
 Comes sh s ended (refused n) next used line after =
-    (next ≡ pick (waits ended n) Wants Done) × (used ≡ 0) × (line ≡ pick (waits ended n) [] (last_line sh.opened s n)) × (after ≡ sh)
+    (next ≡ pick (waits ended n) Wants Done) × (used ≡ 0) × (line ≡ pick (waits ended n) [] (last_line (opened sh) s n)) × (after ≡ sh)
 
 -- the line stands at the start of the buffer, all else as it was
 pub record Turned (sh : Shelf) (s : List ℕ) (ended : Bool) (o : Out Due) (out : List ℕ) (r : Turn) (after : List ℕ) : Type 0 where

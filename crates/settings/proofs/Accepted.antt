@@ -6,7 +6,7 @@
 --     rows_good, rows_held     its rows: N, in range, and the table's disks
 --     accepted_kind        its kind
 --     accepted_rule, rows_in_use, marks_none       of a kind but 6: its table has the rule that its kind says, and marks 0
---     accepted_proper, none_proper, told_proper    the table of a sheet, of no settings, of any answer is `Proper`
+--     accepted_proper, none_proper, proper_of, told_proper     the table of a sheet, of no settings, of either, of an answer is `Proper`
 --     proper_length, proper_good, proper_zero      what that says: 64 rows, those of the disks in range, those beyond 0
 use mathlib.Core.Path.{◌≡◌, refl, sym, ap, ◌∙◌, subst}
 use mathlib.Core.Bool.{true, false}
@@ -15,6 +15,7 @@ use Prim.Native.Nat.{ℕ, ◌≤◌, ◌<◌}
 use native.Mathlib.Omega.{arith}
 use lib.Dec.{eqb}
 use lib.ListN.{length, get_or, get_or-eq_default}
+use Rattle.std.specs.Prelude.{Ok}
 use Rattle.basics.specs.Choice.{pick}
 use Rattle.basics.specs.Limits.{disks_most, cost_most, load_most, delay_most}
 use Rattle.basics.specs.Lists.{All}
@@ -26,20 +27,20 @@ use Rattle.field.specs.Sheet.{Out, got, refused, ◌>>=◌, pure, times}
 use Rattle.field.specs.Field.{opening, inside}
 use Rattle.field.proofs.Sheet.{bind_got, pure_got}
 use Rattle.field.proofs.Whole.{whole_got}
-use Rattle.field.proofs.Opened.{opening_tenancy}
+use Rattle.field.proofs.Opened.{opening_kind, opening_tenancy}
 use Rattle.field.proofs.Values.{between_range, times_all}
 use Rattle.model.specs.declared.Rule.{Rule}
 use Rattle.model.specs.declared.Rule.TheVariants.{Sum}
 use Rattle.settings.specs.declared.Head.{Head}
 use Rattle.settings.specs.declared.Row.{Row}
-use Rattle.settings.specs.declared.Settings.{Settings}
 use Rattle.settings.specs.declared.Table.{Table}
+use Rattle.settings.specs.Kind.{kind_number, kind_in}
 use Rattle.settings.specs.Row.{disk, no_disk, cost, load, delay, mark, row, in_range, all_in_range}
 use Rattle.settings.specs.Table.{table, no_table, disk_rows, Proper}
 use Rattle.settings.specs.Sheet.{kinds, rule_in, rule, heading, body, fields, settings_sheet}
 use Rattle.settings.specs.Told.{table_of, Told}
 use Rattle.settings.proofs.Alone.{alone_fits, fits_range}
-use Rattle.settings.proofs.Rules.{InUse}
+use Rattle.settings.proofs.Rules.{kind_number_law, InUse}
 use Rattle.settings.proofs.Rows.{Good, range_in, all_rows, rows_all}
 
 -- ---- the fields of a row
@@ -97,9 +98,9 @@ pub record HeadGot (unit t : ℕ) (s : List ℕ) (at : ℕ) (h : Head) (e : ℕ)
   pub number : ℕ
   pub fourth : ℕ
   pub fifth : ℕ
-  pub opening_got : opening kinds unit t s at ≡ got h.kind fourth
+  pub opening_got : opening kinds unit t s at ≡ got (kind_number h.kind) fourth
   pub disks_got : inside 1 disks_most 6 s fourth ≡ got h.disks fifth
-  pub rule_got : rule h.kind s fifth ≡ got number e
+  pub rule_got : rule (kind_number h.kind) s fifth ≡ got number e
   pub rule_is : rule_in number ≡ h.rule
 
 module _ (unit t : ℕ) (s : List ℕ) (at : ℕ) (h : Head) (e : ℕ) (f : heading unit t s at ≡ got h e) where
@@ -107,19 +108,21 @@ module _ (unit t : ℕ) (s : List ℕ) (at : ℕ) (h : Head) (e : ℕ) (f : head
   unfolding heading
   head_steps =
       let o = bind_got (opening kinds unit t) s at h e
-      (λ k. inside 1 disks_most 6 >>= λ n. rule k >>= λ r. pure (record { kind = k; disks = n; rule = rule_in r })) f in
+      (λ k. inside 1 disks_most 6 >>= λ n. rule k >>= λ r. pure (record { kind = kind_in k; disks = n; rule = rule_in r })) f in
       let k = o.found in
       let n = bind_got (inside 1 disks_most 6) s o.mid h e
-      (λ n. rule k >>= λ r. pure (record { kind = k; disks = n; rule = rule_in r })) o.last in
-      let r = bind_got (rule k) s n.mid h e (λ r. pure (record { kind = k; disks = n.found; rule = rule_in r })) n.last in
+      (λ n. rule k >>= λ r. pure (record { kind = kind_in k; disks = n; rule = rule_in r })) o.last in
+      let r = bind_got (rule k) s n.mid h e (λ r. pure (record { kind = kind_in k; disks = n.found; rule = rule_in r })) n.last in
       let p = pure_got _ h s _ e r.last in
+      let is : k ≡ kind_number h.kind =
+      sym (kind_number_law k (opening_kind unit t kinds s at o.first)) ∙ ap (λ x. kind_number x.kind) p.0 in
       record {
         number = r.found;
         fourth = o.mid;
         fifth = n.mid;
-        opening_got = o.first ∙ ap (λ x. got x.kind o.mid) p.0;
+        opening_got = o.first ∙ ap (λ x. got x o.mid) is;
         disks_got = n.first ∙ ap (λ x. got x.disks n.mid) p.0;
-        rule_got = ap (λ x. rule x.kind s n.mid) (sym p.0) ∙ r.first ∙ ap (got r.found) p.1;
+        rule_got = ap (λ x. rule x s n.mid) (sym is) ∙ r.first ∙ ap (got r.found) p.1;
         rule_is = ap (λ x. x.rule) p.0;
       }
 
@@ -130,10 +133,10 @@ module _ {unit t : ℕ} {s : List ℕ} {at : ℕ} {h : Head} {e : ℕ} (w : Head
   pub number_range : (1 ≤ w.number) × (w.number ≤ 2)
   unfolding rule
   number_range =
-      let said : ℕ = pick (eqb h.kind 5) 2 1 in
-      fits_range (alone_fits (eqb h.kind 6) 1 2 said s w.fifth w.rule_got)
-      (pick_elim (λ v. 1 ≤ v) (eqb h.kind 5) 2 1 (λ _. omega arith) (λ _. omega arith))
-      (pick_elim (λ v. v ≤ 2) (eqb h.kind 5) 2 1 (λ _. omega arith) (λ _. omega arith))
+      let said : ℕ = pick (eqb (kind_number h.kind) 5) 2 1 in
+      fits_range (alone_fits (eqb (kind_number h.kind) 6) 1 2 said s w.fifth w.rule_got)
+      (pick_elim (λ v. 1 ≤ v) (eqb (kind_number h.kind) 5) 2 1 (λ _. omega arith) (λ _. omega arith))
+      (pick_elim (λ v. v ≤ 2) (eqb (kind_number h.kind) 5) 2 1 (λ _. omega arith) (λ _. omega arith))
 
 -- ---- the fields of a sheet
 
@@ -142,7 +145,7 @@ pub record SheetGot (unit t : ℕ) (s : List ℕ) (T : Table) (e : ℕ) : Type 0
   pub rows : List Row
   pub sixth : ℕ
   pub front_got : HeadGot unit t s 0 front sixth
-  pub rows_got : times front.disks (row front.kind) s sixth ≡ got rows e
+  pub rows_got : times front.disks (row (kind_number front.kind)) s sixth ≡ got rows e
   pub is : table front.disks front.rule rows ≡ T
   pub long : e ≡ length s
 
@@ -152,7 +155,7 @@ sheet_steps unit t s T e h =
     let g = whole_got (fields unit t) s T e h in
     let f = bind_got (heading unit t) s 0 T e body g.0 in
     let front = f.found in
-    let k = bind_got (times front.disks (row front.kind)) s f.mid T e
+    let k = bind_got (times front.disks (row (kind_number front.kind))) s f.mid T e
     (λ rows. pure (table front.disks front.rule rows)) f.last in
     let p = pure_got _ T s _ e k.last in
     record {
@@ -176,19 +179,19 @@ module _ {unit t : ℕ} {s : List ℕ} {T : Table} {e : ℕ} (w : SheetGot unit 
   pub rows_good : (length w.rows ≡ w.front.disks) × All Good w.rows
   rows_good =
       let h = w.front in
-      times_all (row h.kind) Good s (row_good h.kind s) h.disks w.sixth w.rows e w.rows_got
+      times_all (row (kind_number h.kind)) Good s (row_good (kind_number h.kind) s) h.disks w.sixth w.rows e w.rows_got
 
   pub rows_held : disk_rows T ≡ w.rows
   unfolding disk_rows table
   rows_held = ap disk_rows (sym w.is) ∙ pad_front no_disk disks_most w.rows w.front.disks rows_good.0
 
 -- of a kind but 6
-module _ {unit t : ℕ} {s : List ℕ} {T : Table} {e : ℕ} (w : SheetGot unit t s T e) (f : eqb w.front.kind 6 ≡ false) where
+module _ {unit t : ℕ} {s : List ℕ} {T : Table} {e : ℕ} (w : SheetGot unit t s T e) (f : eqb (kind_number w.front.kind) 6 ≡ false) where
   -- the start rule that its kind says
-  pub rule_said : T.rule ≡ rule_in (pick (eqb w.front.kind 5) 2 1)
+  pub rule_said : T.rule ≡ rule_in (pick (eqb (kind_number w.front.kind) 5) 2 1)
   unfolding table rule
   rule_said =
-      let k = w.front.kind in
+      let k = kind_number w.front.kind in
       let g = w.front_got in
       ap (λ x. x.rule) (sym w.is) ∙ sym g.rule_is
       ∙ ap rule_in ((alone_fits (eqb k 6) 1 2 (pick (eqb k 5) 2 1) s g.fifth g.rule_got).said f)
@@ -197,7 +200,8 @@ module _ {unit t : ℕ} {s : List ℕ} {T : Table} {e : ℕ} (w : SheetGot unit 
   pub rows_in_use : All InUse w.rows
   rows_in_use =
       let h = w.front in
-      (times_all (row h.kind) InUse s (λ at r n q. row_in_use h.kind s at r n q f) h.disks w.sixth w.rows e w.rows_got).1
+      (times_all (row (kind_number h.kind)) InUse s (λ at r n q. row_in_use (kind_number h.kind) s at r n q f) h.disks w.sixth w.rows e
+      w.rows_got).1
 
   rows_marks : (i : ℕ) → (get_or T.rows i no_disk).mark ≡ 0
   unfolding table
@@ -209,10 +213,10 @@ module _ {unit t : ℕ} {s : List ℕ} {T : Table} {e : ℕ} (w : SheetGot unit 
 module _ (unit t : ℕ) (s : List ℕ) (T : Table) (e k m : ℕ) (h : settings_sheet unit t s 0 ≡ got T e)
     (o : opening kinds unit t s 0 ≡ got k m) where
   -- the kind of a sheet
-  pub accepted_kind : (sheet_steps unit t s T e h).front.kind ≡ k
+  pub accepted_kind : kind_number (sheet_steps unit t s T e h).front.kind ≡ k
   accepted_kind =
       let f = (sheet_steps unit t s T e h).front_got in
-      let same : got (sheet_steps unit t s T e h).front.kind f.fourth ≡ got k m = sym f.opening_got ∙ o in cc
+      let same : got (kind_number (sheet_steps unit t s T e h).front.kind) f.fourth ≡ got k m = sym f.opening_got ∙ o in cc
 
   module _ (f : eqb k 6 ≡ false) where
     pub accepted_rule : T.rule ≡ rule_in (pick (eqb k 5) 2 1)
@@ -243,15 +247,15 @@ pub none_proper : Proper no_table
 unfolding no_table all_in_range
 none_proper = proper_table 0 Sum [] refl (omega arith) refl
 
-proper_of : (unit t : ℕ) (s : List ℕ) (o : Out Table) → settings_sheet unit t s 0 ≡ o → Proper (table_of o)
+-- so are the table that was read and the one of a refused sheet
+pub proper_of : (unit t : ℕ) (s : List ℕ) (o : Out Table) → settings_sheet unit t s 0 ≡ o → Proper (table_of o)
 unfolding table_of
 proper_of unit t s (got T e) h = (accepted_proper unit t s T e h).0
 proper_of unit t s (refused n) h = none_proper
 
--- whatever the reader answers, its table is one that a unit may hold
-pub told_proper : (unit t : ℕ) (s : List ℕ) {n : ℕ} {r : Settings} → Told n (settings_sheet unit t s 0) r → Proper r.table
-told_proper unit t s w =
-    subst (λ (x : Table). Proper x) (sym w.table) (proper_of unit t s (settings_sheet unit t s 0) refl)
+-- whatever table the reader answers is one that a unit may hold
+pub told_proper : (unit t : ℕ) (s : List ℕ) {n : ℕ} {T : Table} → Told n (settings_sheet unit t s 0) (Ok T) → Proper T
+told_proper unit t s {n} {T} w = (accepted_proper unit t s T n (sym w)).0
 
 module _ {T : Table} (w : Proper T) where
   -- there are 64 rows

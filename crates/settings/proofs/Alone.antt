@@ -1,27 +1,23 @@
 -- A number that is a field of kind 6 alone, and that the other kinds say: the start rule's and a disk's mark.
---     alone, alone_bytes         such a number as it is read and as it is written, by the test of the kind
---     alone_field, alone_said   where it is a field, and where it is said
+--     alone         such a number as it is read, by the test of the kind; as it is written it is `field_if`
 --     Fitting, alone_fits, fits_range     what is known of its value
 --     reads_alone, alone_spelt, within_alone     reading what was written, the bytes of what was read, where it refuses
---     alone_width, alone_none, alone_top         how many bytes it has
---     lays_alone, lays_none     writing it
-use mathlib.Core.Path.{◌≡◌, refl, sym, ap, ◌∙◌}
+--     alone_top         how many bytes it has
+use mathlib.Core.Path.{◌≡◌, refl, sym}
 use mathlib.Core.Bool.{Bool, true, false}
-use mathlib.Core.List.{List, []}
-use Prim.Native.Nat.{ℕ, ◌+◌, ◌^◌, ◌≤◌, ◌<◌}
+use mathlib.Core.List.{List}
+use Prim.Native.Nat.{ℕ, ◌^◌, ◌≤◌, ◌<◌}
 use native.Mathlib.Omega.{arith}
 use lib.ListN.{length}
 use Rattle.basics.specs.Choice.{pick}
 use Rattle.basics.specs.Count.{bit}
-use Rattle.basics.proofs.Choice.{pick_true, pick_false}
 use Rattle.basics.proofs.Tests.{differ}
 use Rattle.number.specs.Bytes.{Bytes}
-use Rattle.number.specs.Encode.{encode, width_of}
+use Rattle.number.specs.Encode.{width_of}
 use Rattle.number.proofs.Encode.{width_one}
-use Rattle.field.specs.Put.{PutOne, Laid}
 use Rattle.field.specs.Sheet.{Parser, got, pure}
 use Rattle.field.specs.Field.{inside}
-use Rattle.field.proofs.Puts.{put_one, laid_none}
+use Rattle.field.specs.Put.{field_if}
 use Rattle.field.proofs.Read.{Reads, reads_between, reads_pure}
 use Rattle.field.proofs.Sheet.{pure_got}
 use Rattle.field.proofs.Spelt.{Spelt, spelt_none, between_spelt}
@@ -32,18 +28,7 @@ use Rattle.field.proofs.Within.{Within, within_between, within_pure, within_more
 abbrev pub alone : Bool → ℕ → ℕ → ℕ → Parser ℕ
 alone b low high v = pick b (inside low high 15) (pure v)
 
-abbrev pub alone_bytes : Bool → ℕ → List ℕ
-alone_bytes b x = pick b (encode x) []
-
 -- ---- reading it
-
-module _ {b : Bool} (low high v : ℕ) (s : List ℕ) (at : ℕ) where
-  pub alone_field : b ≡ true → alone b low high v s at ≡ inside low high 15 s at
-  alone_field t = ap (λ (p : Parser ℕ). p s at) (pick_true (inside low high 15) (pure v) t)
-
-  pub alone_said : {x : ℕ} → x ≡ v → b ≡ false → got x at ≡ alone b low high v s at
-  unfolding pure
-  alone_said q f = ap (λ (n : ℕ). got n at) q ∙ ap (λ (p : Parser ℕ). p s at) (sym (pick_false (inside low high 15) (pure v) f))
 
 -- it is in its range where it is a field; else it is what is said
 pub record Fitting (b : Bool) (low high v x : ℕ) : Type 0 where
@@ -60,14 +45,14 @@ pub fits_range : {b : Bool} {low high v x : ℕ} → Fitting b low high v x → 
 fits_range {b = true} w l m = w.ranged refl
 fits_range {b = false} w l m = (omega (arith, w.said refl), omega (arith, w.said refl))
 
-pub reads_alone : (b : Bool) (low high v x : ℕ) → Fitting b low high v x → high < 2 ^ 32 → Reads (alone b low high v) (alone_bytes b x) x
+pub reads_alone : (b : Bool) (low high v x : ℕ) → Fitting b low high v x → high < 2 ^ 32 → Reads (alone b low high v) (field_if b x) x
 unfolding pick
 reads_alone true low high v x w h =
     let r = w.ranged refl in reads_between low high 15 15 x r.0 r.1 (omega (arith, r.1))
 reads_alone false low high v x w h = rw (w.said refl) (reads_pure v)
 
 pub alone_spelt : (b : Bool) (low high v : ℕ) (s : List ℕ) → Bytes s → (at : ℕ) {x e : ℕ} → at ≤ length s
-    → alone b low high v s at ≡ got x e → Spelt s at e (alone_bytes b x)
+    → alone b low high v s at ≡ got x e → Spelt s at e (field_if b x)
 unfolding pick
 alone_spelt true low high v s z at l h = (between_spelt s z at low high 15 15 h).0
 alone_spelt false low high v s z at {x} {e} l h = rw (sym (pure_got v x s at e h).1) (spelt_none s at l)
@@ -79,23 +64,8 @@ within_alone false low high v = within_more (omega arith) (within_pure v)
 
 -- ---- writing it
 
-module _ {b : Bool} (x : ℕ) where
-  pub alone_width : b ≡ true → width_of x ≡ length (alone_bytes b x)
-  unfolding width_of
-  alone_width t = ap length (sym (pick_true (encode x) [] t))
-
-  pub alone_none : b ≡ false → 0 ≡ length (alone_bytes b x)
-  alone_none f = ap length (sym (pick_false (encode x) [] f))
-
-  pub lays_alone : {out : List ℕ} {at next : ℕ} {after : List ℕ} → b ≡ true → PutOne x out at next after
-      → at + length (alone_bytes b x) ≤ length out → Laid out at (alone_bytes b x) after next
-  lays_alone t f l = rw (pick_true (encode x) [] t) (put_one f (omega (arith, alone_width t)))
-
-  pub lays_none : (out : List ℕ) (at : ℕ) → b ≡ false → at + length (alone_bytes b x) ≤ length out → Laid out at (alone_bytes b x) out at
-  lays_none out at f l = rw (pick_false (encode x) [] f) (laid_none out at (omega (arith, alone_none f)))
-
 -- one byte where it is a field, else none
-pub alone_top : (b : Bool) (x : ℕ) → x < 128 → length (alone_bytes b x) ≡ bit b
+pub alone_top : (b : Bool) (x : ℕ) → x < 128 → length (field_if b x) ≡ bit b
 unfolding pick bit width_of
 alone_top true x h = width_one x h
 alone_top false x h = refl

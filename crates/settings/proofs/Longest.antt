@@ -20,10 +20,11 @@ use Rattle.field.proofs.Opened.{opening_kind}
 use Rattle.model.specs.declared.Rule.{Rule}
 use Rattle.model.specs.declared.Rule.TheVariants.{Sum, Larger}
 use Rattle.settings.specs.declared.Table.{Table}
-use Rattle.settings.specs.Row.{disk, in_range, all_in_range, mark_bytes, row_bytes}
+use Rattle.settings.specs.Kind.{kind_number}
+use Rattle.settings.specs.Row.{disk, in_range, all_in_range, marked_bytes, row_bytes}
 use Rattle.settings.specs.Table.{costs, loads, delays, marks}
 use Rattle.settings.specs.Sheet.{kinds, settings_sheet}
-use Rattle.settings.specs.Draft.{rows_of, kind_of, rule_number, rule_bytes, heading_bytes, sheet_bytes, lists_fit}
+use Rattle.settings.specs.Draft.{rows_of, heading_bytes, sheet_bytes, lists_fit}
 use Rattle.settings.specs.Draft.{sheet_draft, settings_draft, marked_draft}
 use Rattle.settings.proofs.Rules.{kind_small}
 use Rattle.settings.proofs.Rows.{rows_top, rows_all_top}
@@ -59,7 +60,7 @@ pub longest_accepted : (unit t : ℕ) (s : List ℕ) (T : Table) (e : ℕ) → B
     → length s ≤ settings_most
 longest_accepted unit t s T e b h =
     let o = (sheet_steps unit t s T e h).front_got.opening_got in
-    let k = (sheet_steps unit t s T e h).front.kind in
+    let k = kind_number (sheet_steps unit t s T e h).front.kind in
     omega (
       arith,
       longest_written k unit t _ (costs T) (loads T) (delays T) (marks T) s (kind_small k (opening_kind unit t kinds s 0 o))
@@ -73,9 +74,9 @@ pub longest_reached : (r : Rule) → (bs : List ℕ)
     (replicate disks_most delay_most)
     ≡ sheet bs)
     × (length bs ≡ 652)
-unfolding settings_draft sheet_draft lists_fit pick all_in_range in_range rows_of kind_of rule_number sheet_bytes heading_bytes
-    rule_bytes opening_bytes
-    spell_all row_bytes mark_bytes encode encode_by
+unfolding settings_draft sheet_draft lists_fit pick all_in_range in_range rows_of sheet_bytes heading_bytes
+    marked_bytes opening_bytes
+    spell_all row_bytes encode encode_by
 longest_reached Sum = (sheet_bytes 1 4294967295 4294967295 1 (replicate disks_most (disk cost_most load_most delay_most 0)), refl, refl)
 longest_reached Larger = (sheet_bytes 5 4294967295 4294967295 2 (replicate disks_most (disk cost_most load_most delay_most 0)), refl, refl)
 
@@ -85,7 +86,7 @@ pub longest_marked : (bs : List ℕ)
     (replicate disks_most delay_most)
     (replicate disks_most 1) ≡ sheet bs)
     × (length bs ≡ settings_most)
-unfolding sheet_draft lists_fit pick all_in_range in_range rows_of sheet_bytes heading_bytes rule_bytes opening_bytes spell_all
-    row_bytes mark_bytes encode
+unfolding sheet_draft lists_fit pick all_in_range in_range rows_of sheet_bytes heading_bytes marked_bytes opening_bytes spell_all
+    row_bytes encode
     encode_by
 longest_marked = (sheet_bytes 6 4294967295 4294967295 2 (replicate disks_most (disk cost_most load_most delay_most 1)), refl, refl)

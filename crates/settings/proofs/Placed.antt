@@ -7,21 +7,21 @@ use Prim.Native.Nat.{ℕ, ◌+◌, ◌*◌, ◌≤◌}
 use native.Mathlib.Omega.{arith}
 use lib.ListN.{length}
 use Rattle.basics.specs.Limits.{disks_most}
+use Rattle.std.specs.Prelude.{Result, Err}
 use Rattle.field.specs.declared.Fault.{Fault}
 use Rattle.field.specs.declared.Refusal.TheVariants.{NoRoom}
-use Rattle.field.specs.declared.Verdict.{Verdict}
-use Rattle.field.specs.declared.Verdict.TheVariants.{Refused as Denied}
-use Rattle.field.specs.declared.Written.TheVariants.{Refused}
 use Rattle.field.specs.Send.{answer_to, Sent}
 use Rattle.field.specs.Sheet.{Note, got, refused}
+use Rattle.field.specs.Told.{told_by}
 use Rattle.field.proofs.Sends.{Roomless, sent_enough}
 use Rattle.field.proofs.Within.{Within, within_bind, within_known, within_pure, within_more, within_between, within_opening}
 use Rattle.field.proofs.Within.{within_times, within_whole, place_inside}
 use Rattle.settings.specs.declared.Head.{Head}
 use Rattle.settings.specs.Row.{mark, row}
 use Rattle.settings.specs.Sheet.{kinds, rule, heading, body, fields, settings_sheet}
-use Rattle.settings.specs.declared.Settings.{Settings}
-use Rattle.settings.specs.Told.{told_by, Told}
+use Rattle.settings.specs.Kind.{kind_number}
+use Rattle.settings.specs.declared.Table.{Table}
+use Rattle.settings.specs.Told.{Told}
 use Rattle.settings.specs.Draft.{sheet_draft}
 use Rattle.settings.proofs.Alone.{within_alone}
 use Rattle.settings.proofs.Accepted.{heading_disks}
@@ -36,7 +36,7 @@ within_row k =
 within_body : (h : Head) → h.disks ≤ disks_most → Within (disks_most * 20) (body h)
 unfolding body
 within_body h l =
-    within_more (omega arith) (within_bind (within_times h.disks (within_row h.kind)) (λ rows. within_pure _))
+    within_more (omega arith) (within_bind (within_times h.disks (within_row (kind_number h.kind))) (λ rows. within_pure _))
 
 within_heading : (unit t : ℕ) → Within 25 (heading unit t)
 unfolding heading rule
@@ -54,11 +54,9 @@ pub sheet_placed : (unit t : ℕ) (s : List ℕ) {n : Note} → settings_sheet u
 sheet_placed unit t s h = place_inside (within_sheet unit t) h
 
 -- the same of what `read` answers
-pub read_placed : (unit t : ℕ) (s : List ℕ) {k : ℕ} {r : Settings} {f : Fault} → Told k (settings_sheet unit t s 0) r
-    → r.answer ≡ Denied f → f.place ≤ length s
-unfolding told_by
-read_placed unit t s {k} {r} w h =
-    sheet_placed unit t s (sym w.answer ∙ ap (λ (a : Verdict). told_by k a r.table) h)
+pub read_placed : (unit t : ℕ) (s : List ℕ) (k : ℕ) {r : Result Table Fault} {f : Fault} → Told k (settings_sheet unit t s 0) r
+    → r ≡ Err f → f.place ≤ length s
+read_placed unit t s k w h = sheet_placed unit t s (sym w ∙ ap (told_by (λ T. got T k)) h)
 
 module _ (k unit t r : ℕ) (cs ls ds ms : List ℕ) where
   roomless : Roomless (sheet_draft k unit t r cs ls ds ms)
@@ -67,6 +65,6 @@ module _ (k unit t r : ℕ) (cs ls ds ms : List ℕ) where
       draft_either k unit t r cs ls ds ms (λ n o e. subst Roomless (sym e) o) (λ w. subst Roomless (sym w.is) tt)
 
   -- of any kind
-  pub write_enough : (out out' : List ℕ) (f : Fault) (after : List ℕ) → Sent (sheet_draft k unit t r cs ls ds ms) out (Refused f) after
+  pub write_enough : (out out' : List ℕ) (f : Fault) (after : List ℕ) → Sent (sheet_draft k unit t r cs ls ds ms) out (Err f) after
       → f.refusal ≡ NoRoom → f.place ≤ length out' → answer_to (sheet_draft k unit t r cs ls ds ms) out' ≡ got tt f.place
   write_enough out out' f after w q l = sent_enough (sheet_draft k unit t r cs ls ds ms) out out' f after roomless w q l

@@ -17,8 +17,8 @@ use Rattle.basics.specs.Limits.{disks_most, cost_most, load_most, delay_most}
 use Rattle.basics.specs.Lists.{All}
 use Rattle.number.specs.Bytes.{Bytes}
 use Rattle.number.specs.Encode.{encode}
-use Rattle.field.specs.declared.Written.{Written}
-use Rattle.field.specs.declared.Written.TheVariants.{Length}
+use Rattle.std.specs.Prelude.{Result, Ok}
+use Rattle.field.specs.declared.Fault.{Fault}
 use Rattle.field.specs.Put.{spell_all, opening_bytes}
 use Rattle.field.specs.Send.{sheet, Sent}
 use Rattle.field.specs.Sheet.{got}
@@ -29,15 +29,17 @@ use Rattle.field.proofs.Opened.{reads_opening, opening_spelt, opening_kind}
 use Rattle.field.proofs.Sends.{sent_sheet, sent_room}
 use Rattle.field.proofs.Lists.{reads_times, times_spelt}
 use Rattle.model.specs.declared.Rule.{Rule}
+use Rattle.model.specs.Rule.{rule_number}
 use Rattle.settings.specs.declared.Row.{Row}
 use Rattle.settings.specs.declared.Table.{Table}
-use Rattle.settings.specs.Row.{mark, row, all_in_range, mark_bytes, row_bytes}
+use Rattle.settings.specs.Kind.{kind_number, kind_in}
+use Rattle.settings.specs.Row.{mark, row, all_in_range, marked_bytes, row_bytes}
 use Rattle.settings.specs.Table.{table, costs, loads, delays, marks}
 use Rattle.settings.specs.Sheet.{kinds, rule_in, rule, heading, body, fields, settings_sheet}
-use Rattle.settings.specs.Draft.{rows_of, kind_of, rule_number, rule_bytes, heading_bytes, sheet_bytes}
+use Rattle.settings.specs.Draft.{rows_of, kind_of, rule_bytes, heading_bytes, sheet_bytes}
 use Rattle.settings.specs.Draft.{sheet_draft, settings_draft, marked_draft}
 use Rattle.settings.proofs.Alone.{reads_alone, alone_spelt}
-use Rattle.settings.proofs.Rules.{rule_number_law, number_rule, kind_small, kind_rule, InUse, Says, says_rule, says_marked}
+use Rattle.settings.proofs.Rules.{rule_number_law, number_rule, kind_number_law, kind_small, kind_rule, InUse, Says, says_rule, says_marked}
 use Rattle.settings.proofs.Rows.{Good, in_range_law, all_rows, rows_all}
 use Rattle.settings.proofs.Writing.{ListsFit, draft_sheet, drafted}
 use Rattle.settings.proofs.Accepted.{row_steps, row_good, sheet_steps, number_range, accepted_tenancy}
@@ -55,7 +57,7 @@ all_sayable k [] g u = tt
 all_sayable k (r ∷ rows) g u = ((g.0, λ f. (u f).0), all_sayable k rows g.1 (λ f. (u f).1))
 
 reads_row : (k : ℕ) (r : Row) → Sayable k r → Reads (row k) (row_bytes k r) r
-unfolding row row_bytes mark mark_bytes
+unfolding row row_bytes mark marked_bytes
 reads_row k r h =
     let w = in_range_law r h.0 in
     reads_bind _ (reads_between 1 cost_most 15 15 r.cost w.cost_low w.cost_high (omega (arith, w.cost_high)))
@@ -67,8 +69,8 @@ reads_row k r h =
 module _ (k unit t r : ℕ) (rows : List Row) (u : unit < 2 ^ 32) (v : t < 2 ^ 32) (rented : 0 < t) (some : 1 ≤ length rows)
     (few : length rows ≤ disks_most) (low : 1 ≤ r) (high : r ≤ 2) (good : all_in_range rows ≡ true) (says : Says k r rows) where
   reads_heading : Reads (heading unit t) (heading_bytes k unit t (length rows) r)
-      (record { kind = k; disks = length rows; rule = rule_in r })
-  unfolding heading heading_bytes rule rule_bytes
+      (record { kind = kind_in k; disks = length rows; rule = rule_in r })
+  unfolding heading heading_bytes rule marked_bytes
   reads_heading =
       reads_bind _ (reads_opening unit t u rented v kinds k says.taken (omega (arith, kind_small k says.taken)))
       (reads_bind _ (reads_between 1 disks_most 6 6 (length rows) some few (omega arith))
@@ -81,12 +83,12 @@ module _ (k unit t r : ℕ) (rows : List Row) (u : unit < 2 ^ 32) (v : t < 2 ^ 3
   reads_sheet =
       reads_whole
       (reads_bind _ reads_heading
-      (reads_checked _ (reads_times (row k) (row_bytes k) (Sayable k) (reads_row k) rows
-      (all_sayable k rows (all_rows rows good) says.marks)) (reads_pure (table (length rows) (rule_in r) rows))))
+      (reads_checked _ (rw (kind_number_law k says.taken) (reads_times (row k) (row_bytes k) (Sayable k) (reads_row k) rows
+      (all_sayable k rows (all_rows rows good) says.marks))) (reads_pure (table (length rows) (rule_in r) rows))))
 
 -- the writer was told this rule and these costs, loads, delays and marks, and the reader finds them in the table
 pub read_sent : (k unit t r : ℕ) (cs ls ds ms out : List ℕ) (n : ℕ) (after : List ℕ) → Says k r (rows_of cs ls ds ms)
-    → unit < 2 ^ 32 → t < 2 ^ 32 → Sent (sheet_draft k unit t r cs ls ds ms) out (Length n) after
+    → unit < 2 ^ 32 → t < 2 ^ 32 → Sent (sheet_draft k unit t r cs ls ds ms) out (Ok n) after
     → settings_sheet unit t (take n after) 0 ≡ got (table (length cs) (rule_in r) (rows_of cs ls ds ms)) n
 read_sent k unit t r cs ls ds ms out n after says u v w =
     let b = sent_sheet (sheet_draft k unit t r cs ls ds ms) out n after w in
@@ -101,7 +103,7 @@ read_sent k unit t r cs ls ds ms out n after says u v w =
     ∙ ap (got (table (length cs) (rule_in r) (rows_of cs ls ds ms))) (ap length (sym d.1) ∙ sym b.2)
 
 pub read_written : (r : Rule) (unit t : ℕ) (cs ls ds out : List ℕ) (n : ℕ) (after : List ℕ) → unit < 2 ^ 32 → t < 2 ^ 32
-    → Sent (settings_draft r unit t cs ls ds) out (Length n) after
+    → Sent (settings_draft r unit t cs ls ds) out (Ok n) after
     → settings_sheet unit t (take n after) 0 ≡ got (table (length cs) r (rows_of cs ls ds (replicate (length cs) 0))) n
 unfolding settings_draft
 read_written r unit t cs ls ds out n after u v w =
@@ -109,14 +111,14 @@ read_written r unit t cs ls ds out n after u v w =
     ∙ ap (λ x. got (table (length cs) x (rows_of cs ls ds (replicate (length cs) 0))) n) (rule_number_law r)
 
 pub read_marked : (unit t r : ℕ) (cs ls ds ms out : List ℕ) (n : ℕ) (after : List ℕ) → unit < 2 ^ 32 → t < 2 ^ 32
-    → Sent (marked_draft unit t r cs ls ds ms) out (Length n) after
+    → Sent (marked_draft unit t r cs ls ds ms) out (Ok n) after
     → settings_sheet unit t (take n after) 0 ≡ got (table (length cs) (rule_in r) (rows_of cs ls ds ms)) n
 read_marked unit t r cs ls ds ms out n after = read_sent 6 unit t r cs ls ds ms out n after (says_marked r (rows_of cs ls ds ms))
 
 -- ---- writing what was read
 
 row_spelt : (k : ℕ) (s : List ℕ) → Bytes s → (at : ℕ) (r : Row) (e : ℕ) → row k s at ≡ got r e → Spelt s at e (row_bytes k r) × Good r
-unfolding row_bytes mark mark_bytes
+unfolding row_bytes mark marked_bytes
 row_spelt k s b at r e h =
     let w = row_steps k s at r e h in
     let d = between_spelt s b w.third 0 delay_most 15 15 w.delay_got in (
@@ -163,28 +165,29 @@ module _ (unit t : ℕ) (s : List ℕ) (T : Table) (e k m : ℕ) (b : Bytes s) (
     (o : opening kinds unit t s 0 ≡ got k m) where
   -- the draft of an accepted table, of the sheet's kind and with the rule's number, is the sheet that was read
   pub write_accepted : sheet_draft k unit t (rule_number T.rule) (costs T) (loads T) (delays T) (marks T) ≡ sheet s
-  unfolding table costs loads delays marks sheet_bytes heading_bytes rule rule_bytes
+  unfolding table costs loads delays marks sheet_bytes heading_bytes rule marked_bytes
   write_accepted =
       let w = sheet_steps unit t s T e h in
       let f = w.front in
+      let kind = kind_number f.kind in
       let g = w.front_got in
       let i = number_range g in
       let n = between_spelt s b g.fourth 1 disks_most 6 6 g.disks_got in
-      let r = alone_spelt (eqb f.kind 6) 1 2 (pick (eqb f.kind 5) 2 1) s b g.fifth n.0.within g.rule_got in
-      let p = times_spelt (row f.kind) (row_bytes f.kind) Good s (row_spelt f.kind s b) f.disks w.sixth w.rows e
+      let r = alone_spelt (eqb kind 6) 1 2 (pick (eqb kind 5) 2 1) s b g.fifth n.0.within g.rule_got in
+      let p = times_spelt (row kind) (row_bytes kind) Good s (row_spelt kind s b) f.disks w.sixth w.rows e
       r.within w.rows_got in
-      let same : s ≡ sheet_bytes f.kind unit t g.number w.rows =
+      let same : s ≡ sheet_bytes kind unit t g.number w.rows =
       spelt_whole s e _ w.long
       (spelt_join (spelt_join (opening_spelt unit t kinds s 0 g.opening_got b).0 (spelt_join n.0 r)) p.0)
       ∙ ap
-      (λ x. (opening_bytes f.kind unit t ++ (encode x ++ rule_bytes f.kind g.number)) ++ spell_all (row_bytes f.kind) w.rows)
+      (λ x. (opening_bytes kind unit t ++ (encode x ++ rule_bytes kind g.number)) ++ spell_all (row_bytes kind) w.rows)
       (sym p.1) in
       let number : rule_number T.rule ≡ g.number =
       ap (λ x. rule_number x.rule) (sym w.is) ∙ ap rule_number (sym g.rule_is) ∙ number_rule g.number i.0 i.1 in
       ap₂ (λ x y. sheet_draft x unit t y (costs T) (loads T) (delays T) (marks T)) (sym (accepted_kind unit t s T e k m h o)) number
-      ∙ ap (λ x. sheet_draft f.kind unit t g.number (map (λ y. y.cost) x) (map (λ y. y.load) x) (map (λ y. y.delay) x)
+      ∙ ap (λ x. sheet_draft kind unit t g.number (map (λ y. y.cost) x) (map (λ y. y.load) x) (map (λ y. y.delay) x)
       (map (λ y. y.mark) x)) (rows_held w)
-      ∙ draft_rows f.kind unit t g.number w.rows (accepted_tenancy unit t s T e h) (omega (arith, n.1, p.1))
+      ∙ draft_rows kind unit t g.number w.rows (accepted_tenancy unit t s T e h) (omega (arith, n.1, p.1))
       (omega (arith, n.2, p.1))
       i.0 i.1 (rows_all w.rows p.2)
       ∙ ap sheet (sym same)
@@ -203,12 +206,12 @@ module _ (unit t : ℕ) (s : List ℕ) (T : Table) (e k m : ℕ) (b : Bytes s) (
       ap₂ (λ x y. sheet_draft x unit t (rule_number T.rule) (costs T) (loads T) (delays T) y) kind zeros ∙ write_accepted
 
   -- with room for it, the writer of its kind leaves the same bytes
-  pub written_accepted : (out : List ℕ) (r : Written) (after : List ℕ) → length s ≤ length out
+  pub written_accepted : (out : List ℕ) (r : Result ℕ Fault) (after : List ℕ) → length s ≤ length out
       → Sent (sheet_draft k unit t (rule_number T.rule) (costs T) (loads T) (delays T) (marks T)) out r after
-      → (r ≡ Length (length s)) × (after ≡ over s out)
+      → (r ≡ Ok (length s)) × (after ≡ over s out)
   written_accepted out r after l w = sent_room out r after write_accepted l w
 
-  pub written_unmarked : eqb k 6 ≡ false → (out : List ℕ) (r : Written) (after : List ℕ) → length s ≤ length out
+  pub written_unmarked : eqb k 6 ≡ false → (out : List ℕ) (r : Result ℕ Fault) (after : List ℕ) → length s ≤ length out
       → Sent (settings_draft T.rule unit t (costs T) (loads T) (delays T)) out r after
-      → (r ≡ Length (length s)) × (after ≡ over s out)
+      → (r ≡ Ok (length s)) × (after ≡ over s out)
   written_unmarked f out r after l w = sent_room out r after (write_unmarked f) l w

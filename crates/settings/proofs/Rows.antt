@@ -1,13 +1,15 @@
 -- The rows of a sheet: their ranges, their bytes on a sheet of a kind, and the rows of four lists.
 --     InRange, in_range_law, range_in      what the test of a row says
 --     all_rows, rows_all               rows in range, by the test and one by one
+--     marked_width     the bytes of a number that is a field of kind 6 alone
 --     mark_small, row_most, row_most_law, rows_all_top     the most bytes of a mark, and of a row on a sheet of a kind
---     row_length, row_some, row_top, row_unfit, row_fit      the bytes of a row: one at the least
---     rows_top, rows_most, rows_some, rows_small             of rows
---     Level, level, length_rows, rows_below, rows_end, row_of       the rows of four lists: how many, and each of them
+--     row_length, row_top, row_unfit, row_fit      the bytes of a row
+--     rows_top, rows_most, rows_small              of rows
+--     length_rows, rows_below, rows_end, row_of    the rows of four lists: how many, and each of them
+--     if_some, if_none                             what stands where a test holds, or nothing
 --     Sized, sized_start, sized_small, sized_step, sized_stop, sized_done      the loop that finds their length
 use mathlib.Core.Path.{◌≡◌, refl, sym, ap, ◌∙◌}
-use mathlib.Core.Bool.{true, false, ◌&&◌, and_assoc}
+use mathlib.Core.Bool.{Bool, true, false, ◌&&◌, and_assoc}
 use mathlib.Core.List.{List, [], ◌∷◌, ◌++◌}
 use Prim.Native.Nat.{ℕ, zero, suc, ◌+◌, ◌*◌, ◌≤◌, ◌<◌}
 use native.Mathlib.Omega.{arith}
@@ -19,16 +21,19 @@ use lib.Seq.{take-suc, take_all, split_at, length-take-le}
 use Rattle.basics.specs.Count.{bit}
 use Rattle.basics.specs.Limits.{disks_most, cost_most, load_most, delay_most}
 use Rattle.basics.specs.Lists.{All}
-use Rattle.basics.proofs.Count.{gate_true, gate_false, gate_some, gate_none, gate_most, bit_le}
+use Rattle.basics.specs.Choice.{pick}
+use Rattle.basics.proofs.Choice.{pick_true, pick_false}
+use Rattle.basics.proofs.Count.{bit_le}
+use Rattle.std.specs.Prelude.{Some, None}
 use Rattle.basics.proofs.Tests.{by_cases, not_here, and_left, and_right, and_both, second_false}
 use Rattle.number.specs.Encode.{encode, width_of}
-use Rattle.number.proofs.Encode.{width_bounds, width_top}
-use Rattle.field.specs.Put.{spell_all}
+use Rattle.number.proofs.Encode.{width_top}
+use Rattle.field.specs.Put.{spell_all, field_if}
 use Rattle.field.proofs.Spell.{spell_more}
 use Rattle.settings.specs.declared.Row.{Row}
-use Rattle.settings.specs.Row.{disk, no_disk, in_range, all_in_range, mark_bytes, row_bytes}
+use Rattle.settings.specs.Row.{disk, no_disk, in_range, all_in_range, marked_bytes, mark_bytes, row_bytes}
 use Rattle.settings.specs.Draft.{rows_of}
-use Rattle.settings.specs.Parts.{row_width, rows_width}
+use Rattle.settings.specs.Parts.{Level, row_width, rows_width}
 use Rattle.settings.proofs.Alone.{alone_top}
 
 -- ---- the test of a row
@@ -103,9 +108,14 @@ module _ (rows : List Row) (i : ℕ) (h : i < length rows) where
 unfoldable pub row_most : ℕ → ℕ
 row_most k = 10 + bit (eqb k 6)
 
+-- as the width of a field that is there or not says it
+pub marked_width : (k v : ℕ) {b : Bool} {n : ℕ} → b ≡ eqb k 6 → n ≡ length (field_if b v) → n ≡ length (marked_bytes k v)
+unfolding marked_bytes
+marked_width k v e w = w ∙ ap (λ (b : Bool). length (field_if b v)) e
+
 -- a mark takes one byte at the most
 pub mark_small : (k m : ℕ) → m ≤ 1 → length (mark_bytes k m) ≤ 1
-unfolding mark_bytes
+unfolding marked_bytes
 mark_small k m h = omega (arith, alone_top (eqb k 6) m (omega arith), bit_le (eqb k 6))
 
 -- of so many rows, eleven at the most
@@ -130,11 +140,8 @@ module _ (k : ℕ) where
         length-append (encode r.delay) (mark_bytes k r.mark),
       )
 
-  pub row_some : (r : Row) → 0 < length (row_bytes k r)
-  row_some r = omega (arith, row_length r, width_bounds r.cost)
-
   pub row_top : (r : Row) → in_range r ≡ true → length (row_bytes k r) ≤ row_most k
-  unfolding row_most mark_bytes
+  unfolding row_most marked_bytes
   row_top r h =
       let w = in_range_law r h in
       let cost = width_top 2 r.cost (omega (arith, w.cost_high)) (omega (arith, w.cost_high)) in
@@ -156,31 +163,30 @@ module _ (k : ℕ) where
   pub rows_most : (rows : List Row) → all_in_range rows ≡ true → length (spell_all (row_bytes k) rows) ≤ length rows * 11
   rows_most rows h = omega (arith, rows_top rows h, row_most_law k (length rows))
 
-  pub rows_some : (rows : List Row) → 1 ≤ length rows → 0 < length (spell_all (row_bytes k) rows)
-  unfolding spell_all
-  rows_some [] l = l
-  rows_some (r ∷ rows) l = omega (arith, length-append (row_bytes k r) (spell_all (row_bytes k) rows), row_some r)
-
   -- what its width says
-  pub row_unfit : (r : Row) → (InRange r → ⊥) → 0 ≡ row_width k r
+  pub row_unfit : (r : Row) → (InRange r → ⊥) → None ≡ row_width k r
   unfolding row_width
-  row_unfit r h = sym (gate_false _ _ (not_here (in_range r) (λ t. h (in_range_law r t))))
+  row_unfit r h = sym (pick_false _ _ (not_here (in_range r) (λ t. h (in_range_law r t))))
 
   pub row_fit : (r : Row) {a b d m : ℕ} → InRange r → a ≡ width_of r.cost → b ≡ width_of r.load → d ≡ width_of r.delay
-      → m ≡ length (mark_bytes k r.mark) → a + b + d + m ≡ row_width k r
+      → m ≡ length (mark_bytes k r.mark) → Some (a + b + d + m) ≡ row_width k r
   unfolding row_width
-  row_fit r w p q e f = omega (arith, row_length r) ∙ sym (gate_true _ _ (range_in r w))
+  row_fit r {a} {b} {d} {m} w p q e f =
+      let n : a + b + d + m ≡ length (row_bytes k r) = omega (arith, row_length r) in ap Some n ∙ sym (pick_true _ _ (range_in r w))
+
+-- ---- what stands where a test holds, or nothing
+
+pub if_some : (b : Bool) (x : ℕ) {y : ℕ} → pick b (Some x) None ≡ Some y → (b ≡ true) × (x ≡ y)
+unfolding pick
+if_some true x h = (refl, cc)
+if_some false x h = absurd (let e : None ≡ Some _ = h in let z : ◌≡◌ {A = ℕ} 0 1 = cc in omega arith)
+
+pub if_none : (b : Bool) (x : ℕ) → pick b (Some x) None ≡ None → b ≡ false
+unfolding pick
+if_none true x h = absurd (let e : Some x ≡ None = h in let z : ◌≡◌ {A = ℕ} 0 1 = cc in omega arith)
+if_none false x h = refl
 
 -- ---- the rows of four lists
-
--- they are of one length
-pub record Level (cs ls ds ms : List ℕ) : Type 0 where
-  pub loads : length ls ≡ length cs
-  pub delays : length ds ≡ length cs
-  pub marks : length ms ≡ length cs
-
-pub level : {cs ls ds ms : List ℕ} → (length ls ≡ length cs) × (length ds ≡ length cs) → length ms ≡ length cs → Level cs ls ds ms
-level p q = record { loads = p.0; delays = p.1; marks = q }
 
 level_rest : {c l d m : ℕ} {cs ls ds ms : List ℕ} → Level (c ∷ cs) (l ∷ ls) (d ∷ ds) (m ∷ ms) → Level cs ls ds ms
 level_rest w = record { loads = omega (arith, w.loads); delays = omega (arith, w.delays); marks = omega (arith, w.marks) }
@@ -194,7 +200,7 @@ length_rows (c ∷ cs) (l ∷ ls) (d ∷ ds) [] w = absurd (omega (arith, w.mark
 length_rows (c ∷ cs) (l ∷ ls) (d ∷ ds) (m ∷ ms) w = ap suc (length_rows cs ls ds ms (level_rest w))
 
 pub row_of : (cs ls ds ms : List ℕ) (i : ℕ) → Level cs ls ds ms → i < length cs
-    → get_or (rows_of cs ls ds ms) i no_disk ≡ disk (get_or cs i 0) (get_or ls i 0) (get_or ds i 0) (get_or ms i 0)
+    → disk (get_or cs i 0) (get_or ls i 0) (get_or ds i 0) (get_or ms i 0) ≡ get_or (rows_of cs ls ds ms) i no_disk
 unfolding rows_of
 row_of [] ls ds ms i w h = absurd (omega arith)
 row_of (c ∷ cs) [] ds ms i w h = absurd (omega (arith, w.loads))
@@ -203,24 +209,20 @@ row_of (c ∷ cs) (l ∷ ls) (d ∷ ds) [] i w h = absurd (omega (arith, w.marks
 row_of (c ∷ cs) (l ∷ ls) (d ∷ ds) (m ∷ ms) zero w h = refl
 row_of (c ∷ cs) (l ∷ ls) (d ∷ ds) (m ∷ ms) (suc i) w h = row_of cs ls ds ms i (level_rest w) (omega arith)
 
-module _ {cs ls ds ms : List ℕ} (w : Level cs ls ds ms) where
+module _ {cs ls ds ms : List ℕ} (fit : Level cs ls ds ms) where
   pub rows_below : {i : ℕ} → i < length cs → i < length (rows_of cs ls ds ms)
-  rows_below h = omega (arith, length_rows cs ls ds ms w)
+  rows_below h = omega (arith, length_rows cs ls ds ms fit)
 
   pub rows_end : {i : ℕ} → length cs ≤ i → length (rows_of cs ls ds ms) ≤ i
-  rows_end h = omega (arith, length_rows cs ls ds ms w)
+  rows_end h = omega (arith, length_rows cs ls ds ms fit)
 
   -- for 64 disks they have 704 bytes at the most
-  pub rows_small : (k : ℕ) {n : ℕ} → length cs ≤ disks_most → n ≡ rows_width k (rows_of cs ls ds ms) → n ≤ 704
+  pub rows_small : (k : ℕ) {n : ℕ} → length cs ≤ disks_most → Some n ≡ rows_width k (rows_of cs ls ds ms) → n ≤ 704
   unfolding rows_width
   rows_small k l e =
       let rows = rows_of cs ls ds ms in
-      omega (
-        arith,
-        e,
-        gate_most (all_in_range rows) (length (spell_all (row_bytes k) rows)) 704
-            (λ t. omega (arith, rows_most k rows t, length_rows cs ls ds ms w)),
-      )
+      let w = if_some (all_in_range rows) (length (spell_all (row_bytes k) rows)) (sym e) in
+      omega (arith, w.1, rows_most k rows w.0, length_rows cs ls ds ms fit)
 
 -- ---- the loop that finds their length
 
@@ -234,43 +236,46 @@ unfolding all_in_range spell_all
 sized_start kind rows = record { below = omega arith; good = refl; count = refl }
 
 module _ {kind : ℕ} {rows : List Row} {i total : ℕ} (w : Sized kind rows i total) where
-  pub sized_done : length rows ≤ i → total ≡ rows_width kind rows
+  pub sized_done : length rows ≤ i → Some total ≡ rows_width kind rows
   unfolding rows_width
   sized_done h =
       let e : take i rows ≡ rows = take_all i rows h in
-      w.count ∙ ap (λ x. length (spell_all (row_bytes kind) x)) e ∙ sym (gate_true _ _ (ap all_in_range (sym e) ∙ w.good))
+      ap Some (w.count ∙ ap (λ x. length (spell_all (row_bytes kind) x)) e) ∙ sym (pick_true _ _ (ap all_in_range (sym e) ∙ w.good))
 
-  -- one row more, of so many bytes
-  module _ {r : Row} {k : ℕ} (h : i < length rows) (e : get_or rows i no_disk ≡ r) (q : k ≡ row_width kind r) where
-    pub sized_small : total + k ≤ 11 * (i + 1)
-    unfolding row_width
-    sized_small =
-        omega (
-          arith,
-          w.count,
-          rows_most kind (take i rows) w.good,
-          length-take-le i rows w.below,
-          gate_most (in_range r) (length (row_bytes kind r)) 11 (λ t. omega (arith, row_top kind r t, row_most_law kind 1)),
-        )
-
-    pub sized_stop : k ≡ 0 → 0 ≡ rows_width kind rows
+  -- one row more
+  module _ {r : Row} (h : i < length rows) (e : r ≡ get_or rows i no_disk) where
+    pub sized_stop : None ≡ row_width kind r → None ≡ rows_width kind rows
     unfolding row_width rows_width
-    sized_stop z =
-        sym (gate_false _ _ (all_out rows i h (ap in_range e ∙ gate_none (in_range r) _ (row_some kind r) (sym q ∙ z))))
+    sized_stop q = sym (pick_false _ _ (all_out rows i h (ap in_range (sym e) ∙ if_none (in_range r) _ (sym q))))
 
-    pub sized_step : (k ≡ 0 → ⊥) → Sized kind rows (i + 1) (total + k)
-    unfolding row_width
-    sized_step z =
-        let t = gate_some (in_range r) (length (row_bytes kind r)) (λ n. z (q ∙ n)) in
-        record {
-          below = omega arith;
-          good = all_more rows i h w.good (ap in_range e ∙ t.0);
-          count = omega (
+    -- of so many bytes
+    module _ {k : ℕ} (q : Some k ≡ row_width kind r) where
+      fits : (in_range r ≡ true) × (length (row_bytes kind r) ≡ k)
+      unfolding row_width
+      fits = if_some (in_range r) (length (row_bytes kind r)) (sym q)
+
+      pub sized_small : total + k ≤ 11 * (i + 1)
+      sized_small =
+          omega (
             arith,
             w.count,
-            q ∙ t.1,
-            ap length (sym (spell_more (row_bytes kind) rows i no_disk h)),
-            length-append (spell_all (row_bytes kind) (take i rows)) (row_bytes kind (get_or rows i no_disk)),
-            ap (λ x. length (row_bytes kind x)) e,
-          );
-        }
+            rows_most kind (take i rows) w.good,
+            length-take-le i rows w.below,
+            fits.1,
+            row_top kind r fits.0,
+            row_most_law kind 1,
+          )
+
+      pub sized_step : Sized kind rows (i + 1) (total + k)
+      sized_step = record {
+        below = omega arith;
+        good = all_more rows i h w.good (ap in_range (sym e) ∙ fits.0);
+        count = omega (
+          arith,
+          w.count,
+          fits.1,
+          ap length (sym (spell_more (row_bytes kind) rows i no_disk h)),
+          length-append (spell_all (row_bytes kind) (take i rows)) (row_bytes kind (get_or rows i no_disk)),
+          ap (λ x. length (row_bytes kind x)) e,
+        );
+      }

@@ -13,8 +13,9 @@ use Rattle.field.specs.Send.{Draft, sheet, none}
 use Rattle.field.specs.Sheet.{unplaced}
 use Rattle.model.specs.declared.Rule.{Rule}
 use Rattle.model.specs.declared.Rule.TheVariants.{Sum, Larger}
+use Rattle.model.specs.Rule.{rule_number}
 use Rattle.settings.specs.declared.Row.{Row}
-use Rattle.settings.specs.Row.{disk, all_in_range, row_bytes}
+use Rattle.settings.specs.Row.{disk, all_in_range, marked_bytes, row_bytes}
 
 unfoldable pub rows_of : List ℕ → List ℕ → List ℕ → List ℕ → List Row
 rows_of [] ls ds ms = []
@@ -23,18 +24,13 @@ rows_of (c ∷ cs) (l ∷ ls) [] ms = []
 rows_of (c ∷ cs) (l ∷ ls) (d ∷ ds) [] = []
 rows_of (c ∷ cs) (l ∷ ls) (d ∷ ds) (m ∷ ms) = disk c l d m ∷ rows_of cs ls ds ms
 
-unfoldable pub kind_of : Rule → ℕ
+abbrev pub kind_of : Rule → ℕ
 kind_of Sum = 1
 kind_of Larger = 5
 
--- the number of a rule
-unfoldable pub rule_number : Rule → ℕ
-rule_number Sum = 1
-rule_number Larger = 2
-
--- that number, a field of kind 6 alone
-unfoldable pub rule_bytes : ℕ → ℕ → List ℕ
-rule_bytes k r = pick (eqb k 6) (encode r) []
+-- the number of a rule, a field of kind 6 alone
+abbrev pub rule_bytes : ℕ → ℕ → List ℕ
+rule_bytes k r = marked_bytes k r
 
 -- the bytes of the fields before the rows
 unfoldable pub heading_bytes : ℕ → ℕ → ℕ → ℕ → ℕ → List ℕ

@@ -1,3 +1,4 @@
+pub mod Kind
 pub mod Row
 pub mod Table
 pub mod Sheet

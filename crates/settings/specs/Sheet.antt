@@ -15,6 +15,7 @@ use Rattle.model.specs.declared.Rule.{Rule}
 use Rattle.model.specs.declared.Rule.TheVariants.{Sum, Larger}
 use Rattle.settings.specs.declared.Head.{Head}
 use Rattle.settings.specs.declared.Table.{Table}
+use Rattle.settings.specs.Kind.{kind_number, kind_in}
 use Rattle.settings.specs.Row.{row}
 use Rattle.settings.specs.Table.{table}
 
@@ -34,11 +35,11 @@ heading unit t = do
   k ← opening kinds unit t
   n ← inside 1 disks_most 6
   r ← rule k
-  pure (record { kind = k; disks = n; rule = rule_in r })
+  pure (record { kind = kind_in k; disks = n; rule = rule_in r })
 
 unfoldable pub body : Head → Parser Table
 body h = do
-  rows ← times h.disks (row h.kind)
+  rows ← times h.disks (row (kind_number h.kind))
   pure (table h.disks h.rule rows)
 
 -- its fields

@@ -3,7 +3,7 @@
 --     holds_start           nothing is read
 --     used_within, holds_served     the bytes used are there; they are gone
 --     room_left             a buffer without a whole call is not full
---     came_within, holds_came, holds_told     bytes that came fit; they are a piece more; the input has ended
+--     holds_came, holds_told     bytes that came are a piece more; the input has ended
 --     holds_as              the invariant by other names
 --     holds_says            what was printed is what all the pieces say, whatever would have followed
 use mathlib.Core.Path.{◌≡◌, refl, sym, ap, ◌∙◌, subst}
@@ -18,19 +18,20 @@ use Rattle.service.specs.declared.Next.TheVariants.{Served, Wants}
 use Rattle.service.specs.declared.Next.TheVariants.{Done as Last}
 use Rattle.service.specs.declared.Shelf.{Shelf}
 use Rattle.service.specs.declared.Turn.{Turn}
-use Rattle.service.specs.Shelf.{due, closed, Turned}
+use Rattle.service.specs.Shelf.{due, closed, opened, unit_of, Turned}
 use Rattle.service.specs.Session.{Turns, Says, SoFar}
 use Rattle.service.proofs.Turns.{Waiting, turned_turns, turns_whole, turns_used, turns_wants, serves_sound}
 use Rattle.service.proofs.Session.{closed_sound, so_far_start, so_far_served, so_far_took, so_far_told, so_far_says}
+use Rattle.std.specs.Prelude.{Result, Ok}
 use Rattle.wire.specs.declared.Input.{Input}
-use Rattle.wire.specs.declared.Input.TheVariants.{Bytes}
+use Rattle.wire.specs.declared.Failed.{Failed}
 use Rattle.wire.specs.Input.{came, Reads}
 use Rattle.shelf.specs.Parts.{Shifts}
 use Rattle.stream.specs.Call.{call_most}
 
 pub record Holds (most : ℕ) (sh : Shelf) (buf : List ℕ) (have : ℕ) (ended : Bool) : Type 0 where
   pub so_far : SoFar sh (take have buf) ended
-  pub sound : Sound sh.unit
+  pub sound : Sound (unit_of sh)
   pub within : have ≤ length buf
   pub size : length buf ≡ most
   pub enough : call_most ≤ most
@@ -39,7 +40,7 @@ pub holds_start : {sh : Shelf} (buf : List ℕ) → sh ≡ closed → call_most 
 holds_start {sh} buf q l =
     record {
       so_far = subst (λ (x : Shelf). SoFar x [] false) (sym q) so_far_start;
-      sound = subst (λ (x : Shelf). Sound x.unit) (sym q) closed_sound;
+      sound = subst (λ (x : Shelf). Sound (unit_of x)) (sym q) closed_sound;
       within = omega arith;
       size = refl;
       enough = l;
@@ -50,15 +51,9 @@ pub holds_as : {most : ℕ} {sh : Shelf} {buf buf' : List ℕ} {have have' : ℕ
     → ended' ≡ ended → Holds most sh buf have ended → Holds most sh buf' have' ended'
 holds_as {most} {sh} {buf} {buf'} {have} {have'} {ended} {ended'} p q e h = rw (p, q, e) h
 
--- bytes that came fit the buffer
-pub came_within : {most : ℕ} {sh : Shelf} {buf : List ℕ} {have : ℕ} {ended : Bool} {x : Input} {after : List ℕ} (n : ℕ)
-    → Holds most sh buf have ended → Reads buf have x after → x ≡ Bytes n → have + n ≤ length buf
-unfolding came
-came_within n h w e = omega (arith, w.within, ap came e)
-
 module _ {most : ℕ} {sh : Shelf} {buf : List ℕ} {have : ℕ} {ended : Bool} (h : Holds most sh buf have ended) {out : List ℕ}
     (r : Turn) {line : List ℕ}
-    (t : Turned sh (take have buf) ended (due sh.opened (take have buf) 0) out r line) where
+    (t : Turned sh (take have buf) ended (due (opened sh) (take have buf) 0) out r line) where
   there : length (take have buf) ≡ have
   there = length-take-le have buf h.within
 
@@ -95,10 +90,10 @@ module _ {most : ℕ} {sh : Shelf} {buf : List ℕ} {have : ℕ} {ended : Bool} 
     turn_wants =
         subst (λ (x : Bool). Turns sh (take have buf) x Wants r.used t.line r.shelf) waiting.going (turned_turns r t q)
 
-    still_sound : Sound r.shelf.unit
-    still_sound = subst (λ (x : Shelf). Sound x.unit) (sym waiting.same) h.sound
+    still_sound : Sound (unit_of r.shelf)
+    still_sound = subst (λ (x : Shelf). Sound (unit_of x)) (sym waiting.same) h.sound
 
-    came_behind : (x : Input) {after : List ℕ} → Reads buf have x after → Holds most r.shelf after (have + came x) ended
+    came_behind : (x : Result Input Failed) {after : List ℕ} → Reads buf have x after → Holds most r.shelf after (have + came x) ended
     came_behind x {after} w =
         let piece : List ℕ = take (came x) (drop have after) in
         let all : take have buf ++ piece ≡ take (have + came x) after =
@@ -113,11 +108,11 @@ module _ {most : ℕ} {sh : Shelf} {buf : List ℕ} {have : ℕ} {ended : Bool} 
           enough = h.enough;
         }
 
-    pub holds_came : {x : Input} (y : Input) {after : List ℕ} → Reads buf have x after → x ≡ y
-        → Holds most r.shelf after (have + came y) ended
-    holds_came {x} y {after} w e = came_behind y (subst (λ (z : Input). Reads buf have z after) e w)
+    pub holds_came : {x : Result Input Failed} (y : Input) {after : List ℕ} → Reads buf have x after → x ≡ Ok y
+        → Holds most r.shelf after (have + came (Ok y)) ended
+    holds_came {x} y {after} w e = came_behind (Ok y) (subst (λ (z : Result Input Failed). Reads buf have z after) e w)
 
-    pub holds_told : {x : Input} {after : List ℕ} → Reads buf have x after → Holds most r.shelf after have true
+    pub holds_told : {x : Result Input Failed} {after : List ℕ} → Reads buf have x after → Holds most r.shelf after have true
     holds_told {x} {after} w =
         record {
           so_far = subst (λ (y : List ℕ). SoFar r.shelf y true) (sym w.kept) (so_far_told so_far turn_wants);

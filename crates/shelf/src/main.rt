@@ -6,7 +6,7 @@ ghost use Rattle.shelf.specs.Parts.{Shifts};
 
 use line::LINE_MOST;
 use service::{Next, Shelf};
-use wire::Input;
+use wire::{Failed, Input};
 
 // The bytes that are read and not used yet: more than the longest call.
 const BUFFER: usize = 16384;
@@ -16,45 +16,37 @@ fn shift(buf: &mut [u8], used: usize, have: usize) -> usize
     requires { (used ≤ have) × (have ≤ length buf.old) }
     ensures { Shifts buf.old used have result buf.new }
 {
-    let mut from = used;
-    let mut to: usize = 0;
-    while from < have {
-        buf[to] = buf[from];
-        from += 1;
-        to += 1;
-    }
-    to
+    buf.copy_within(used..have, 0);
+    have - used
 }
 
-// A turn, its line, and then the next bytes, until nothing follows or a line is lost. A proved loop has to end, and nothing says
-// that the input does: it counts its turns down from a number that no run uses up.
-fn main(rt: HostRuntime) {
+// A turn, its line, and then the next bytes, until nothing follows, a line is lost or a read fails. A proved loop has to end, and
+// nothing says that the input does: it takes at most so many turns as no run uses up.
+fn run(rt: &HostRuntime) -> Result<(), Failed> {
     let mut stdin = rt.stdin();
     let mut buf = [0u8; BUFFER];
     let mut line = [0u8; LINE_MOST];
     let mut shelf = Shelf::new();
     let mut have: usize = 0;
     let mut ended = false;
-    let mut turns = u64::MAX;
-    while turns > 0 {
+    for _ in 0..u64::MAX {
         let turn = service::serve(shelf, &buf[..have], ended, &mut line);
-        let length = turn.length;
-        if !wire::print(&rt, &line[..length]) {
-            return;
-        }
-        let next = turn.next;
-        let used = turn.used;
+        wire::print(rt, &line[..turn.length])?;
         shelf = turn.shelf;
-        match next {
-            Next::Served => have = shift(&mut buf, used, have),
-            Next::Wants => match wire::read_behind(&rt, &mut stdin, &mut buf, have) {
+        match turn.next {
+            Next::Served => have = shift(&mut buf, turn.used, have),
+            Next::Wants => match wire::read_behind(rt, &mut stdin, &mut buf, have)? {
                 Input::Bytes(n) => have += n,
                 Input::Later => {}
                 Input::End => ended = true,
-                Input::Failed => return,
             },
-            Next::Done => return,
+            Next::Done => break,
         }
-        turns -= 1;
     }
+    Ok(())
+}
+
+// What failed is told by then, and the status is the same.
+fn main(rt: HostRuntime) {
+    let _ = run(&rt);
 }

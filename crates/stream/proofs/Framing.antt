@@ -3,10 +3,11 @@ use mathlib.Core.Path.{◌≡◌, refl, sym, ap, ◌∙◌, subst}
 use mathlib.Core.List.{List}
 use Prim.Native.Nat.{ℕ, ◌+◌, ◌-◌, ◌≤◌, ◌<◌}
 use native.Mathlib.Omega.{arith}
-use borrow.Author.Tests.{eq-eqb, ne_eqb, le-leb, lt-leb, leb-true, leb-false}
+use borrow.Author.Tests.{ne_eqb, le-leb, lt-leb, leb-true, leb-false}
 use lib.Dec.{leb}
 use lib.ListN.{length, take, drop, length-drop}
 use lib.Seq.{length-take-le}
+use Rattle.std.specs.Prelude.{Result, Ok, Err}
 use Rattle.basics.specs.Limits.{request_most}
 use Rattle.number.specs.Decode.{Decoded, value, decode, refused as bad}
 use Rattle.basics.proofs.Choice.{pick_true, pick_false}
@@ -15,18 +16,17 @@ use Rattle.number.proofs.Decode.{decode_within}
 use Rattle.field.specs.declared.Fault.{Fault}
 use Rattle.field.specs.Field.{taken, number, inside}
 use Rattle.field.specs.Refusal.{note_of}
-use Rattle.field.specs.Sheet.{unplaced, Note, note, Out, got, refused, Parser, pure}
+use Rattle.field.specs.Sheet.{unplaced, Note, note, Out, got, refused, Parser}
 use Rattle.field.proofs.Readers.{number_past}
 use Rattle.field.proofs.Sheet.{next, stops}
-use Rattle.field.proofs.Unique.{note_injective}
+use Rattle.field.proofs.Unique.{note_injective, not_refused}
 use Rattle.field.proofs.Values.{between_within, between_range}
 use Rattle.stream.specs.declared.Span.{Span}
-use Rattle.stream.specs.declared.Span.TheVariants.{Part, Refused as NoSheet}
 use Rattle.stream.specs.declared.Call.{Call}
-use Rattle.stream.specs.declared.Call.TheVariants.{Rent, Settings, Request, Return, Why, Refused}
-use Rattle.stream.specs.Frame.{bytes, sheet, part, Within, Spans}
-use Rattle.stream.specs.Call.{room_most, Asked, rents, returns, of_tenancy, of_settings, of_request, of_why, none, behind, asked}
-use Rattle.stream.specs.Call.{told_call, Held, Framed}
+use Rattle.stream.specs.declared.Call.TheVariants.{Rent, Settings, Request, Return, Why}
+use Rattle.stream.specs.Frame.{bytes, sheet, part, at_span, Within, Spans}
+use Rattle.stream.specs.Call.{room_most, Asked, none, behind}
+use Rattle.stream.specs.Call.{asked_by, told_call, Holds, Held, Framed}
 
 -- ---- a number lies within the input
 
@@ -60,8 +60,8 @@ module _ (s : List ℕ) (at n e : ℕ) (h : inside 0 request_most 6 s at ≡ got
   unfolding bytes
   sheet_past p = sheet_bytes_law ∙ pick_false _ _ (lt-leb (e + n) (length s) (omega (arith, length_within s at n e h)))
 
-  pub sheet_spans : n ≤ length s - e → Spans s (sheet s at) (Part e (e + n))
-  unfolding Spans bytes part
+  pub sheet_spans : n ≤ length s - e → Spans s (sheet s at) (Ok (record { from = e; to = e + n }))
+  unfolding bytes
   sheet_spans p =
       let w : e + n ≤ length s = omega (arith, length_within s at n e h) in
       let k : n ≡ e + n - e = omega arith in (
@@ -73,144 +73,41 @@ pub sheet_stops : (s : List ℕ) (at : ℕ) {n : Note} → inside 0 request_most
 unfolding sheet
 sheet_stops s at h = stops (inside 0 request_most 6) _ s at h
 
--- what was answered of a sheet
-pub spans_part : {s : List ℕ} {o : Out (List ℕ)} {x : Span} {from to : ℕ} → Spans s o x → x ≡ Part from to
-    → (o ≡ got (part s from to) to) × Within s from to
-unfolding Spans
-spans_part {s} {o} {x} {from} {to} w q = subst (λ (y : Span). Spans s o y) q w
+-- a refusal that was met, and handed on
+pub spans_refused : (s : List ℕ) {o : Out (List ℕ)} {r : Result Span Fault} {f : Fault} → r ≡ Err f → o ≡ refused (note_of f) → Spans s o r
+spans_refused s {o} e h = subst (λ r. Spans s o r) (sym e) h
 
-pub spans_refused : (s : List ℕ) {o : Out (List ℕ)} {x : Span} {e : Fault} → Spans s o x → x ≡ NoSheet e → o ≡ refused (note_of e)
-unfolding Spans
-spans_refused s {o} {x} {e} w q = subst (λ (y : Span). Spans s o y) q w
+-- ---- a call
 
--- ---- the ways in which a call is answered
+pub framed_refused : {s : List ℕ} {o : Out Asked} {r : Result (Call × ℕ) Fault} {f : Fault} → r ≡ Err f → o ≡ refused (note_of f)
+    → Framed s o r
+framed_refused {s} {o} e h = subst (λ r. Framed s o r) (sym e) (record { answer = sym h; held = tt })
 
-pub framed_refused : {s : List ℕ} {o : Out Asked} (e : Fault) → o ≡ refused (note_of e) → Framed s o (Refused e)
-unfolding told_call Held
-framed_refused e h = record { answer = sym h; held = tt }
+-- what follows a call's number
+module _ (s : List ℕ) (at : ℕ) {c k : ℕ} (e : c ≡ k) where
+  pub behind_got : {q : Call} {n : ℕ} → behind k s at ≡ got (asked_by s q) n → Holds s q n → Framed s (behind c s at) (Ok (q, n))
+  behind_got h w = record { answer = sym (ap (λ m. behind m s at) e ∙ h); held = w }
 
--- another reader that gives the same
-pub framed_same : {s : List ℕ} {o q : Out Asked} {r : Call} → q ≡ o → Framed s o r → Framed s q r
-framed_same {s} {o} {q} {r} e w = subst (λ (x : Out Asked). Framed s x r) (sym e) w
+  pub behind_refused : {r : Result (Call × ℕ) Fault} {f : Fault} → r ≡ Err f → behind k s at ≡ refused (note_of f)
+      → Framed s (behind c s at) r
+  behind_refused q h = framed_refused q (ap (λ m. behind m s at) e ∙ h)
 
-module _ (s : List ℕ) (at : ℕ) where
-  -- a rent's or a return's tenancy
-  pub rent_framed : (t e : ℕ) → number s at ≡ got t e → Framed s (of_tenancy rents s at) (Rent t e)
-  unfolding of_tenancy pure told_call Held
-  rent_framed t e h = record { answer = sym (next number _ s at h); held = tt }
+-- a room is as large as its field says
+pub room_within : (s : List ℕ) (at : ℕ) {room e : ℕ} → inside 0 room_most 6 s at ≡ got room e → room ≤ room_most
+room_within s at h = (between_range 0 room_most 6 6 s at h).1
 
-  pub return_framed : (t e : ℕ) → number s at ≡ got t e → Framed s (of_tenancy returns s at) (Return t e)
-  unfolding of_tenancy pure told_call Held
-  return_framed t e h = record { answer = sym (next number _ s at h); held = tt }
-
-  pub tenancy_stops : (ask : ℕ → Asked) (x : Fault) → number s at ≡ refused (note_of x) → Framed s (of_tenancy ask s at) (Refused x)
-  unfolding of_tenancy
-  tenancy_stops ask x h = framed_refused x (stops number _ s at h)
-
-  -- the sheet of settings
-  pub settings_framed : (from to : ℕ) → (sheet s at ≡ got (part s from to) to) × Within s from to
-      → Framed s (of_settings s at) (Settings from to)
-  unfolding of_settings pure told_call Held
-  settings_framed from to p = record { answer = sym (next sheet _ s at p.0); held = p.1 }
-
-  pub settings_stops : (x : Fault) → sheet s at ≡ refused (note_of x) → Framed s (of_settings s at) (Refused x)
-  unfolding of_settings
-  settings_stops x h = framed_refused x (stops sheet _ s at h)
-
-  -- a request's room and sheet
-  pub request_framed : (room e from to : ℕ) → inside 0 room_most 6 s at ≡ got room e
-      → (sheet s e ≡ got (part s from to) to) × Within s from to
-      → Framed s (of_request s at) (Request room from to)
-  unfolding of_request pure told_call Held
-  request_framed room e from to h p =
-      record {
-        answer = sym (next (inside 0 room_most 6) _ s at h ∙ next sheet _ s e p.0);
-        held =
-            (p.1, (between_range 0 room_most 6 6 s at h).1);
-      }
-
-  pub request_sheet_stops : (room e : ℕ) (x : Fault) → inside 0 room_most 6 s at ≡ got room e → sheet s e ≡ refused (note_of x)
-      → Framed s (of_request s at) (Refused x)
-  unfolding of_request
-  request_sheet_stops room e x h p = framed_refused x (next (inside 0 room_most 6) _ s at h ∙ stops sheet _ s e p)
-
-  pub request_stops : (x : Fault) → inside 0 room_most 6 s at ≡ refused (note_of x) → Framed s (of_request s at) (Refused x)
-  unfolding of_request
-  request_stops x h = framed_refused x (stops (inside 0 room_most 6) _ s at h)
-
-  -- a question's block, disk and sheet
-  module _ (b e : ℕ) (h : number s at ≡ got b e) where
-    module _ (d f : ℕ) (k : number s e ≡ got d f) where
-      pub why_framed : (from to : ℕ) → (sheet s f ≡ got (part s from to) to) × Within s from to → Framed s (of_why s at) (Why b d from to)
-      unfolding of_why pure told_call Held
-      why_framed from to p =
-          record { answer = sym (next number _ s at h ∙ next number _ s e k ∙ next sheet _ s f p.0); held = p.1 }
-
-      pub why_sheet_stops : (x : Fault) → sheet s f ≡ refused (note_of x) → Framed s (of_why s at) (Refused x)
-      unfolding of_why
-      why_sheet_stops x p = framed_refused x (next number _ s at h ∙ next number _ s e k ∙ stops sheet _ s f p)
-
-    pub why_disk_stops : (x : Fault) → number s e ≡ refused (note_of x) → Framed s (of_why s at) (Refused x)
-    unfolding of_why
-    why_disk_stops x p = framed_refused x (next number _ s at h ∙ stops number _ s e p)
-
-  pub why_stops : (x : Fault) → number s at ≡ refused (note_of x) → Framed s (of_why s at) (Refused x)
-  unfolding of_why
-  why_stops x h = framed_refused x (stops number _ s at h)
-
-  -- by the call's number
-  module _ (c : ℕ) {r : Call} where
-    pub first : c ≡ 1 → Framed s (of_tenancy rents s at) r → Framed s (behind c s at) r
-    unfolding behind
-    first q w = framed_same (ap (λ (p : Parser Asked). p s at) (pick_true _ _ (eq-eqb c 1 q))) w
-
-    module _ (n₁ : c ≡ 1 → ⊥) where
-      pub second : c ≡ 2 → Framed s (of_settings s at) r → Framed s (behind c s at) r
-      unfolding behind
-      second q w = framed_same (ap (λ (p : Parser Asked). p s at) (pick_false _ _ (ne_eqb c 1 n₁) ∙ pick_true _ _ (eq-eqb c 2 q))) w
-
-      module _ (n₂ : c ≡ 2 → ⊥) where
-        pub third : c ≡ 3 → Framed s (of_request s at) r → Framed s (behind c s at) r
-        unfolding behind
-        third q w = framed_same
-            (ap (λ (p : Parser Asked). p s at) (pick_false _ _ (ne_eqb c 1 n₁) ∙ pick_false _ _ (ne_eqb c 2 n₂)
-            ∙ pick_true _ _ (eq-eqb c 3 q))) w
-
-        module _ (n₃ : c ≡ 3 → ⊥) where
-          pub fourth : c ≡ 4 → Framed s (of_tenancy returns s at) r → Framed s (behind c s at) r
-          unfolding behind
-          fourth q w = framed_same
-              (ap (λ (p : Parser Asked). p s at) (pick_false _ _ (ne_eqb c 1 n₁) ∙ pick_false _ _ (ne_eqb c 2 n₂)
-              ∙ pick_false _ _ (ne_eqb c 3 n₃) ∙ pick_true _ _ (eq-eqb c 4 q))) w
-
-          module _ (n₄ : c ≡ 4 → ⊥) where
-            pub fifth : c ≡ 5 → Framed s (of_why s at) r → Framed s (behind c s at) r
-            unfolding behind
-            fifth q w = framed_same
-                (ap (λ (p : Parser Asked). p s at) (pick_false _ _ (ne_eqb c 1 n₁) ∙ pick_false _ _ (ne_eqb c 2 n₂)
-                ∙ pick_false _ _ (ne_eqb c 3 n₃) ∙ pick_false _ _ (ne_eqb c 4 n₄) ∙ pick_true _ _ (eq-eqb c 5 q))) w
-
-  pub unknown_call : (c : ℕ) → (c ≡ 1 → ⊥) → (c ≡ 2 → ⊥) → (c ≡ 3 → ⊥) → (c ≡ 4 → ⊥) → (c ≡ 5 → ⊥) → (x : Fault)
-      → note_of x ≡ unplaced 3 → Framed s (behind c s at) (Refused x)
-  unfolding behind none
-  unknown_call c n₁ n₂ n₃ n₄ n₅ x k =
-      framed_refused x (ap (λ (p : Parser Asked). p s at) (pick_false _ _ (ne_eqb c 1 n₁) ∙ pick_false _ _ (ne_eqb c 2 n₂)
-      ∙ pick_false _ _ (ne_eqb c 3 n₃) ∙ pick_false _ _ (ne_eqb c 4 n₄) ∙ pick_false _ _ (ne_eqb c 5 n₅)) ∙ ap refused (sym k))
-
--- the whole call
-pub call_framed : {s : List ℕ} {r : Call} (c e : ℕ) → number s 0 ≡ got c e → Framed s (behind c s e) r → Framed s (asked s 0) r
-unfolding asked
-call_framed {s} c e h w = framed_same (next number _ s 0 h) w
-
-pub call_stops : {s : List ℕ} (x : Fault) → number s 0 ≡ refused (note_of x) → Framed s (asked s 0) (Refused x)
-unfolding asked
-call_stops {s} x h = framed_refused x (stops number _ s 0 h)
+-- a number that is no call's
+pub unknown_call : (s : List ℕ) (at : ℕ) {c : ℕ} → (c ≡ 1 → ⊥) → (c ≡ 2 → ⊥) → (c ≡ 3 → ⊥) → (c ≡ 4 → ⊥) → (c ≡ 5 → ⊥)
+    → behind c s at ≡ refused (unplaced 3)
+unfolding behind none
+unknown_call s at {c} n₁ n₂ n₃ n₄ n₅ =
+    ap (λ (p : Parser Asked). p s at) (pick_false _ _ (ne_eqb c 1 n₁) ∙ pick_false _ _ (ne_eqb c 2 n₂)
+    ∙ pick_false _ _ (ne_eqb c 3 n₃) ∙ pick_false _ _ (ne_eqb c 4 n₄) ∙ pick_false _ _ (ne_eqb c 5 n₅))
 
 -- ---- there is no second answer
 
 -- parts of the same bytes that end at the same place begin at the same place
 part_from : (s : List ℕ) (a b e : ℕ) → Within s a e → Within s b e → part s a e ≡ part s b e → a ≡ b
-unfolding part
 part_from s a b e v w q =
     let x : length (take (e - a) (drop a s))
     ≡ e - a = length-take-le (e - a) (drop a s) (omega (arith, length-drop a s, v.order, v.end)) in
@@ -218,78 +115,71 @@ part_from s a b e v w q =
     ≡ e - b = length-take-le (e - b) (drop b s) (omega (arith, length-drop b s, w.order, w.end)) in
     omega (arith, ap length q, v.order, w.order)
 
-pub sheet_unique : (s : List ℕ) (o : Out (List ℕ)) (a b : Span) → Spans s o a → Spans s o b → a ≡ b
-unfolding Spans
-sheet_unique s o (Part c e) (Part f g) v w =
-    let q : got (part s c e) e ≡ got (part s f g) g = sym v.0 ∙ w.0 in
-    let n : e ≡ g = cc in
-    let p : part s c e ≡ part s f g = cc in
-    let l : part s c e ≡ part s f e = p ∙ ap (part s f) (sym n) in
-    let m : c ≡ f = part_from s c f e v.1 (rw n w.1) l in
-    cc
-sheet_unique s o (Part c e) (NoSheet y) v w = let q : got (part s c e) e ≡ refused (note_of y) = sym v.0 ∙ w in cc
-sheet_unique s o (NoSheet x) (Part f g) v w = let q : refused (note_of x) ≡ got (part s f g) g = sym v ∙ w.0 in cc
-sheet_unique s o (NoSheet x) (NoSheet y) v w =
-    let q : refused (note_of x) ≡ refused (note_of y) = sym v ∙ w in
-    let n : note_of x ≡ note_of y = cc in
-    ap NoSheet (note_injective x y n)
+-- spans that end at the same place and hold the same bytes are one
+one_span : (s : List ℕ) (a b : Span) → Within s a.from a.to → Within s b.from b.to → a.to ≡ b.to → at_span s a ≡ at_span s b → a ≡ b
+one_span s a b v w n p =
+    let l : part s a.from a.to ≡ part s b.from a.to = p ∙ ap (part s b.from) (sym n) in
+    let m : a.from ≡ b.from = part_from s a.from b.from a.to v (rw n w) l in
+    rw (m, n) refl
 
-same : (s : List ℕ) (a b : Call) → told_call s a ≡ told_call s b → Held s a → Held s b → a ≡ b
-unfolding told_call Held
-same s (Rent t e) (Rent u f) q h k = cc
-same s (Rent t e) (Settings f g) q h k = cc
-same s (Rent t e) (Request m f g) q h k = cc
-same s (Rent t e) (Return u f) q h k = cc
-same s (Rent t e) (Why b d f g) q h k = cc
-same s (Rent t e) (Refused x) q h k = cc
-same s (Settings c e) (Rent u f) q h k = cc
-same s (Settings c e) (Settings f g) q h k =
-    let n : e ≡ g = cc in
-    let p : part s c e ≡ part s f g = cc in
-    let l : part s c e ≡ part s f e = p ∙ ap (part s f) (sym n) in
-    let m : c ≡ f = part_from s c f e h (rw n k) l in
-    cc
-same s (Settings c e) (Request m f g) q h k = cc
-same s (Settings c e) (Return u f) q h k = cc
-same s (Settings c e) (Why b d f g) q h k = cc
-same s (Settings c e) (Refused x) q h k = cc
-same s (Request r c e) (Rent u f) q h k = cc
-same s (Request r c e) (Settings f g) q h k = cc
-same s (Request r c e) (Request m f g) q h k =
-    let i : r ≡ m = cc in
-    let n : e ≡ g = cc in
-    let p : part s c e ≡ part s f g = cc in
-    let l : part s c e ≡ part s f e = p ∙ ap (part s f) (sym n) in
-    let j : c ≡ f = part_from s c f e h.0 (rw n k.0) l in
-    cc
-same s (Request r c e) (Return u f) q h k = cc
-same s (Request r c e) (Why b d f g) q h k = cc
-same s (Request r c e) (Refused x) q h k = cc
-same s (Return t e) (Rent u f) q h k = cc
-same s (Return t e) (Settings f g) q h k = cc
-same s (Return t e) (Request m f g) q h k = cc
-same s (Return t e) (Return u f) q h k = cc
-same s (Return t e) (Why b d f g) q h k = cc
-same s (Return t e) (Refused x) q h k = cc
-same s (Why a b c e) (Rent u f) q h k = cc
-same s (Why a b c e) (Settings f g) q h k = cc
-same s (Why a b c e) (Request m f g) q h k = cc
-same s (Why a b c e) (Return u f) q h k = cc
-same s (Why a b c e) (Why i d f g) q h k =
-    let u : a ≡ i = cc in
-    let v : b ≡ d = cc in
-    let n : e ≡ g = cc in
-    let p : part s c e ≡ part s f g = cc in
-    let l : part s c e ≡ part s f e = p ∙ ap (part s f) (sym n) in
-    let j : c ≡ f = part_from s c f e h (rw n k) l in
-    cc
-same s (Why a b c e) (Refused x) q h k = cc
-same s (Refused x) (Rent u f) q h k = cc
-same s (Refused x) (Settings f g) q h k = cc
-same s (Refused x) (Request m f g) q h k = cc
-same s (Refused x) (Return u f) q h k = cc
-same s (Refused x) (Why b d f g) q h k = cc
-same s (Refused x) (Refused y) q h k = let n : note_of x ≡ note_of y = cc in ap Refused (note_injective x y n)
+pub sheet_unique : (s : List ℕ) (o : Out (List ℕ)) (a b : Result Span Fault) → Spans s o a → Spans s o b → a ≡ b
+sheet_unique s o (Ok a) (Ok b) v w =
+    let q : got (at_span s a) a.to ≡ got (at_span s b) b.to = sym v.0 ∙ w.0 in
+    let n : a.to ≡ b.to = cc in
+    let p : at_span s a ≡ at_span s b = cc in
+    ap Ok (one_span s a b v.1 w.1 n p)
+sheet_unique s o (Ok a) (Err g) v w = absurd (not_refused (sym v.0 ∙ w))
+sheet_unique s o (Err f) (Ok b) v w = absurd (not_refused (sym w.0 ∙ v))
+sheet_unique s o (Err f) (Err g) v w =
+    let q : refused (note_of f) ≡ refused (note_of g) = sym v ∙ w in
+    let n : note_of f ≡ note_of g = cc in
+    ap Err (note_injective f g n)
 
-pub call_unique : (s : List ℕ) (o : Out Asked) (a b : Call) → Framed s o a → Framed s o b → a ≡ b
+-- what each call asks tells which call it is, and with the place after it where its sheet stands
+same_call : (s : List ℕ) (a b : Call) (n : ℕ) → asked_by s a ≡ asked_by s b → Holds s a n → Holds s b n → a ≡ b
+same_call s (Rent t) (Rent u) n q h k = cc
+same_call s (Rent t) (Settings w) n q h k = cc
+same_call s (Rent t) (Request m w) n q h k = cc
+same_call s (Rent t) (Return u) n q h k = cc
+same_call s (Rent t) (Why c e w) n q h k = cc
+same_call s (Settings v) (Rent u) n q h k = cc
+same_call s (Settings v) (Settings w) n q h k =
+    let z : at_span s v ≡ at_span s w = cc in ap Settings (one_span s v w h.0 k.0 (h.1 ∙ sym k.1) z)
+same_call s (Settings v) (Request m w) n q h k = cc
+same_call s (Settings v) (Return u) n q h k = cc
+same_call s (Settings v) (Why c e w) n q h k = cc
+same_call s (Request r v) (Rent u) n q h k = cc
+same_call s (Request r v) (Settings w) n q h k = cc
+same_call s (Request r v) (Request m w) n q h k =
+    let x : r ≡ m = cc in
+    let z : at_span s v ≡ at_span s w = cc in
+    rw (x, one_span s v w h.0.0 k.0.0 (h.0.1 ∙ sym k.0.1) z) refl
+same_call s (Request r v) (Return u) n q h k = cc
+same_call s (Request r v) (Why c e w) n q h k = cc
+same_call s (Return t) (Rent u) n q h k = cc
+same_call s (Return t) (Settings w) n q h k = cc
+same_call s (Return t) (Request m w) n q h k = cc
+same_call s (Return t) (Return u) n q h k = cc
+same_call s (Return t) (Why c e w) n q h k = cc
+same_call s (Why b d v) (Rent u) n q h k = cc
+same_call s (Why b d v) (Settings w) n q h k = cc
+same_call s (Why b d v) (Request m w) n q h k = cc
+same_call s (Why b d v) (Return u) n q h k = cc
+same_call s (Why b d v) (Why c e w) n q h k =
+    let x : b ≡ c = cc in
+    let y : d ≡ e = cc in
+    let z : at_span s v ≡ at_span s w = cc in
+    rw (x, y, one_span s v w h.0 k.0 (h.1 ∙ sym k.1) z) refl
+
+same : (s : List ℕ) (a b : Result (Call × ℕ) Fault) → told_call s a ≡ told_call s b → Held s a → Held s b → a ≡ b
+same s (Ok (a, n)) (Ok (b, m)) q h k =
+    let e : n ≡ m = cc in
+    let p : asked_by s a ≡ asked_by s b = cc in
+    let c : a ≡ b = same_call s a b n p h (rw e k) in
+    rw (c, e) refl
+same s (Ok a) (Err g) q h k = absurd (not_refused q)
+same s (Err f) (Ok b) q h k = absurd (not_refused (sym q))
+same s (Err f) (Err g) q h k = let n : note_of f ≡ note_of g = cc in ap Err (note_injective f g n)
+
+pub call_unique : (s : List ℕ) (o : Out Asked) (a b : Result (Call × ℕ) Fault) → Framed s o a → Framed s o b → a ≡ b
 call_unique s o a b v w = same s a b (v.answer ∙ sym w.answer) v.held w.held

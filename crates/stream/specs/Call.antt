@@ -2,17 +2,19 @@
 -- 5 block, disk, length, sheet (why).
 --     Asked        what a call asks
 --     asked        one call from the start of what has been read
---     told_call     what each answer says
---     Framed       the promise: the answer, and that its sheet lies within what has been read
-use Rattle.std.specs.Prelude.{ℕ, ◌+◌, ◌≤◌, ◌≡◌, List, eqb}
+--     asked_by     what each call asks
+--     Framed       the promise: the answer, and that its sheet lies within what has been read and ends with the call
+use Rattle.std.specs.Prelude.{ℕ, ◌+◌, ◌≤◌, ◌≡◌, List, Result, Ok, Err, eqb}
 use Rattle.basics.specs.Limits.{request_most}
 use Rattle.basics.specs.Choice.{pick}
+use Rattle.field.specs.declared.Fault.{Fault}
 use Rattle.field.specs.Field.{number, inside}
-use Rattle.field.specs.Refusal.{note_of}
+use Rattle.field.specs.Told.{told_by}
 use Rattle.field.specs.Sheet.{Out, got, refused, unplaced, Parser, ◌>>=◌, pure}
 use Rattle.stream.specs.declared.Call.{Call}
-use Rattle.stream.specs.declared.Call.TheVariants.{Rent, Settings, Request, Return, Why, Refused}
-use Rattle.stream.specs.Frame.{sheet, part, Within}
+use Rattle.stream.specs.declared.Call.TheVariants.{Rent, Settings, Request, Return, Why}
+use Rattle.stream.specs.declared.Span.{Span}
+use Rattle.stream.specs.Frame.{sheet, at_span, Within}
 
 -- the buffer that a call may lend for a plan
 abbrev pub room_most : ℕ
@@ -72,24 +74,34 @@ asked = do
   c ← number
   behind c
 
+-- what a call asks
+abbrev pub asked_by : List ℕ → Call → Asked
+asked_by s (Rent t) = rents t
+asked_by s (Settings w) = sets (at_span s w)
+asked_by s (Request room w) = requests room (at_span s w)
+asked_by s (Return t) = returns t
+asked_by s (Why b d w) = whys b d (at_span s w)
+
 -- what is asked and the place after the call, or a refusal
-unfoldable pub told_call : List ℕ → Call → Out Asked
-told_call s (Rent t e) = got (rents t) e
-told_call s (Settings from e) = got (sets (part s from e)) e
-told_call s (Request room from e) = got (requests room (part s from e)) e
-told_call s (Return t e) = got (returns t) e
-told_call s (Why b d from e) = got (whys b d (part s from e)) e
-told_call s (Refused e) = refused (note_of e)
+abbrev pub told_call : List ℕ → Result (Call × ℕ) Fault → Out Asked
+told_call s = told_by (λ r. got (asked_by s r.0) r.1)
 
--- the sheet of a call lies within what has been read, and a room is at most 4,096
-unfoldable pub Held : List ℕ → Call → Type 0
-Held s (Rent t e) = Unit
-Held s (Settings from e) = Within s from e
-Held s (Request room from e) = Within s from e × (room ≤ room_most)
-Held s (Return t e) = Unit
-Held s (Why b d from e) = Within s from e
-Held s (Refused e) = Unit
+-- a sheet lies within what has been read, and the call ends with it
+abbrev pub EndsAt : List ℕ → Span → ℕ → Type 0
+EndsAt s w e = Within s w.from w.to × (w.to ≡ e)
 
-pub record Framed (s : List ℕ) (o : Out Asked) (r : Call) : Type 0 where
+-- so does the sheet of a call, and a room is at most 4,096
+abbrev pub Holds : List ℕ → Call → ℕ → Type 0
+Holds s (Rent t) e = Unit
+Holds s (Settings w) e = EndsAt s w e
+Holds s (Request room w) e = EndsAt s w e × (room ≤ room_most)
+Holds s (Return t) e = Unit
+Holds s (Why b d w) e = EndsAt s w e
+
+abbrev pub Held : List ℕ → Result (Call × ℕ) Fault → Type 0
+Held s (Ok r) = Holds s r.0 r.1
+Held s (Err f) = Unit
+
+pub record Framed (s : List ℕ) (o : Out Asked) (r : Result (Call × ℕ) Fault) : Type 0 where
   pub answer : told_call s r ≡ o
   pub held : Held s r

@@ -1,12 +1,12 @@
 -- Sheets framed in a stream of bytes, all numbers in sheet form.
-use Rattle.std.specs.Prelude.{ℕ, ◌+◌, ◌-◌, ◌≤◌, ◌≡◌, List, leb, length, take, drop}
+use Rattle.std.specs.Prelude.{ℕ, ◌+◌, ◌-◌, ◌≤◌, ◌≡◌, List, Result, Ok, Err, leb, length, take, drop}
 use Rattle.basics.specs.Limits.{request_most}
 use Rattle.basics.specs.Choice.{pick}
+use Rattle.field.specs.declared.Fault.{Fault}
 use Rattle.field.specs.Field.{inside}
 use Rattle.field.specs.Refusal.{note_of}
 use Rattle.field.specs.Sheet.{Out, got, refused, note, Parser, ◌>>=◌}
 use Rattle.stream.specs.declared.Span.{Span}
-use Rattle.stream.specs.declared.Span.TheVariants.{Part, Refused}
 
 -- so many bytes, or 1 where they run past the input
 unfoldable pub bytes : ℕ → Parser (List ℕ)
@@ -19,7 +19,7 @@ sheet = do
   bytes n
 
 -- the bytes from one place to another
-unfoldable pub part : List ℕ → ℕ → ℕ → List ℕ
+abbrev pub part : List ℕ → ℕ → ℕ → List ℕ
 part s from to = take (to - from) (drop from s)
 
 -- a part that lies within the input
@@ -27,7 +27,11 @@ pub record Within (s : List ℕ) (from to : ℕ) : Type 0 where
   pub order : from ≤ to
   pub end : to ≤ length s
 
+-- the bytes of a sheet that stands there
+abbrev pub at_span : List ℕ → Span → List ℕ
+at_span s w = part s w.from w.to
+
 -- where a sheet stands, or why there is none
-unfoldable pub Spans : List ℕ → Out (List ℕ) → Span → Type 0
-Spans s o (Part from to) = (o ≡ got (part s from to) to) × Within s from to
-Spans s o (Refused e) = o ≡ refused (note_of e)
+abbrev pub Spans : List ℕ → Out (List ℕ) → Result Span Fault → Type 0
+Spans s o (Ok w) = (o ≡ got (at_span s w) w.to) × Within s w.from w.to
+Spans s o (Err f) = o ≡ refused (note_of f)

@@ -5,8 +5,9 @@
 --     reopening                 the disks that have room, but for the one that has a block more
 --     caught_count              the blocks with all copies on the reached disks are as many as those can read, and those of them from b on
 --     awaited, so_far_raised    so they are short, and stay so until the first time at which the disks have room for all of them
---     turned_next, turned_raised, turned_low     the two outcomes of a turn
-use Prim.Native.Nat.{ℕ, ◌+◌, ◌-◌, ◌≤◌, ◌<◌}
+--     turned_next, turned_raised     the two outcomes of a turn
+--     turned_falls              either way less is left: the time rises, or block b has a disk
+use Prim.Native.Nat.{ℕ, ◌+◌, ◌-◌, ◌*◌, ◌≤◌, ◌<◌}
 use mathlib.Core.Path.{◌≡◌, refl, sym, ap, ◌∙◌}
 use mathlib.Core.Logic.{inl}
 use mathlib.Core.Bool.{Bool, true, ◌&&◌}
@@ -14,19 +15,20 @@ use mathlib.Core.List.{List}
 use native.Mathlib.Omega.{arith}
 use lib.Dec.{eqb, ltb, leb}
 use lib.ListN.{get_or, length}
-use borrow.Author.Tests.{eqb-true, eqb-false, ltb-true, ltb-false, le-leb, leb-true}
-use Rattle.basics.specs.Limits.{disks_most, blocks_most, places_most, time_most}
+use borrow.Author.Tests.{eq-eqb, eqb-true, eqb-false, ltb-true, ltb-false, le-leb, leb-true}
+use Rattle.basics.specs.Limits.{blocks_most, places_most, time_most}
 use Rattle.mask.specs.Has.{has}
-use Rattle.mask.specs.Lowest.{Lowest}
+use Rattle.mask.specs.Lowest.{First}
 use Rattle.mask.proofs.Has.{has_zero}
-use Rattle.basics.specs.Count.{gate}
+use Rattle.basics.specs.Count.{bit, gate}
 use Rattle.model.specs.Assignment.{reads, Within}
 use Rattle.model.specs.Capacity.{capacity, end_time}
 use Rattle.model.specs.Case.{capacity_at}
 use Rattle.model.specs.Shortfall.{touches, size, room, Short}
 use Rattle.model.specs.Time.{ShortAt}
 use Rattle.basics.proofs.Tests.{by_cases, differ, and_left, and_right, and_both, same_test, not_here}
-use Rattle.basics.proofs.Count.{gate_true, gate_mono, sum_ext, sum_le, sum_term, count_ext, count_none, count_here, count_most}
+use Rattle.basics.proofs.Count.{bit_true, bit_false, gate_true, gate_mono, sum_ext, sum_le, sum_term}
+use Rattle.basics.proofs.Count.{count_ext, count_none, count_here, count_most}
 use Rattle.model.proofs.Capacity.{capacity_grows, ends_fits}
 use Rattle.model.proofs.Duality.{left}
 use Rattle.places.specs.Places.{entry, holds, roomy}
@@ -110,12 +112,12 @@ module _ {n q b : ℕ} {masks costs starts caps seats counts next prev out by : 
 
     -- ---- the lowest copy of b that has room
 
-    module _ {m d : ℕ} (w : Lowest m d) (u : d < disks_most) (f : (e : ℕ) → has m e ≡ (holds masks b e && has now e)) where
+    module _ {m d : ℕ} (w : First m d) (f : (e : ℕ) → has m e ≡ (holds masks b e && has now e)) where
       copy : holds masks b d ≡ true
-      copy = and_left (holds masks b d) (has now d) (sym (f d) ∙ w.found u)
+      copy = and_left (holds masks b d) (has now d) (sym (f d) ∙ w.found)
 
       pub free : has now d ≡ true
-      free = and_right (holds masks b d) (has now d) (sym (f d) ∙ w.found u)
+      free = and_right (holds masks b d) (has now d) (sym (f d) ∙ w.found)
 
       pub shifting : Shifting b d seats counts next prev
       shifting =
@@ -276,10 +278,17 @@ module _ {n q b : ℕ} {masks costs starts caps seats counts next prev out by : 
             raised = λ _. (w, v.first.later);
           }
 
--- either way block b has a place
-pub turned_low : {n q b : ℕ} {masks costs starts : List ℕ} {t : ℕ} {caps seats counts next prev out by : List ℕ} {r : Moment}
-    → Turned n q b masks costs starts t caps seats counts next prev out by r → b < q → get_or seats b 0 ≤ n
-turned_low {n} {b = b} {seats = seats} v h =
+-- less is left: the time rises, or it stays and block b has a disk
+pub turned_falls : {n q b : ℕ} {masks costs starts : List ℕ} {t : ℕ} {caps seats counts next prev out by : List ℕ} {r : Moment} {s : ℕ}
+    → Turned n q b masks costs starts t caps seats counts next prev out by r → s ≡ n
+    → (time_most - r.time) * 2 + bit (eqb (get_or seats b 0) n) < (time_most - t) * 2 + bit (eqb s n)
+turned_falls {n} {b = b} {seats = seats} {s = s} v k =
     by_cases (eqb (get_or seats b 0) n)
-    (λ e. let z = eqb-true (get_or seats b 0) n e in omega arith)
-    (λ e. (v.placed (eqb-false (get_or seats b 0) n e)).0.seated.placed.low b h)
+    (λ e. let w = v.raised (eqb-true (get_or seats b 0) n e) in
+    omega (arith, w.1, w.0.time, bit_true (eqb (get_or seats b 0) n) e, bit_true (eqb s n) (eq-eqb s n k)))
+    (λ e. omega (
+      arith,
+      (v.placed (eqb-false (get_or seats b 0) n e)).1,
+      bit_false (eqb (get_or seats b 0) n) e,
+      bit_true (eqb s n) (eq-eqb s n k),
+    ))

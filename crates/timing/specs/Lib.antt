@@ -1,2 +1,3 @@
 pub mod Times
 pub mod Parts
+pub mod Boards

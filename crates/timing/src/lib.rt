@@ -1,14 +1,26 @@
 // The least time, and the short set just before it.
 #![tactic(auto)]
 
-ghost use Rattle.std.specs.Prelude.{◌≡◌, ◌-◌, ◌<◌, ◌≤◌};
+ghost use Rattle.std.specs.Prelude.{◌≡◌, ◌<◌, ◌≤◌};
 ghost use Rattle.basics.specs.Limits.{blocks_most};
-ghost use Rattle.places.specs.Table.{Table, Copies};
-ghost use Rattle.timing.specs.Times.{Blank, Timed, Least, Restored};
-ghost use Rattle.timing.specs.Parts.{count_from, SoFar, Tight, Raising, Raised, Turned, Filling, FilledAt};
+ghost use Rattle.places.specs.Table.{Copies};
+ghost use Rattle.places.specs.Among.{inside};
+ghost use Rattle.capacity.specs.Rated.{Priced};
+ghost use Rattle.timing.specs.Parts.{count_from, Tight};
+ghost use Rattle.timing.specs.Boards.{Blank, Timed, Least, Restored, SoFar, Raising, Raised, Turned, Filling, FilledAt};
 
-use basics::{Capacities, Counts, DISKS, Links, Masks, PLACES, Reaches, Seats, Steps};
-use search::Hit;
+use basics::{Capacities, Masks, PLACES, Steps};
+use capacity::Rates;
+use places::Board;
+use search::{Hit, Task};
+
+// What is asked for: q blocks read from n disks, at the disks' rates.
+#[derive(Clone, Copy)]
+pub struct Demand<'a> {
+    pub n: usize,
+    pub q: usize,
+    pub rates: Rates<'a>,
+}
 
 // A time, and the disks that have room then.
 #[derive(Clone, Copy)]
@@ -17,215 +29,144 @@ struct Moment {
     room: u64,
 }
 
+// Whether all copies of a block are in x.
+pub fn all_in(copies: u64, x: u64) -> bool
+    ensures { result ≡ inside copies x }
+{
+    mask::without(copies, x) == 0
+}
+
 // How many blocks from b on have all copies in x.
 fn count_among(b: usize, q: usize, masks: &Masks, x: u64) -> u64
     requires { (b ≤ q) × (q ≤ blocks_most) }
     ensures { result ≡ count_from b q masks.now x }
 {
-    let mut total: u64 = 0;
-    let mut i = b;
-    while i < q {
-        if mask::without(masks[i], x) == 0 {
-            total += 1;
-        }
-        i += 1;
-    }
-    total
+    masks[b..q]
+        .iter()
+        .filter(|copies| all_in(**copies, x))
+        .count() as u64
 }
 
 // A later time: the disks of x are full, so the blocks that have all copies there are short, by block b and those after it, until the disks
 // have room for these too (Hall's theorem).
 fn raise(
-    n: usize,
-    q: usize,
+    demand: Demand,
     b: usize,
-    costs: &[u32],
-    starts: &[u32],
     t: u32,
     x: u64,
     masks: &Masks,
     caps: &mut Capacities,
-    counts: &Counts,
+    board: &Board,
 ) -> Moment
-    requires { Raising n q b masks.now costs.now starts.now t x caps.old }
-    ensures { Raised n q b masks.now costs.now starts.now t x caps.new
-        counts.now result }
+    requires { Raising demand b masks.now t x caps.old }
+    ensures { Raised demand.entry b masks.now t x caps.new board.now.counts result }
 {
-    let time = capacity::earliest(n, costs, starts, t, x, count_among(b, q, masks, x));
-    capacity::capacities(n, costs, starts, time, caps);
+    let Demand { n, q, rates } = demand;
+    let time = capacity::earliest(n, rates, t, x, count_among(b, q, masks, x));
+    capacity::capacities(n, rates, time, caps);
     Moment {
         time,
-        room: places::open(n, caps, counts),
+        room: board.open(n, caps),
     }
 }
 
 // Block b, whose copies have no room, on a disk by displacing others; or a later time, if it is stuck.
 fn make_way(
-    n: usize,
-    q: usize,
+    demand: Demand,
     b: usize,
-    costs: &[u32],
-    starts: &[u32],
     masks: &Masks,
     caps: &mut Capacities,
-    seats: &mut Seats,
-    counts: &mut Counts,
-    next: &mut Links,
-    prev: &mut Links,
-    out: &mut Reaches,
+    board: &mut Board,
     by: &mut Steps,
     moment: Moment,
 ) -> Moment
-    requires { (SoFar n q b masks.now costs.now starts.now caps.old seats.old counts.old next.old prev.old out.old
-        by.old moment.time moment.room)
-        × (b < q) × (Tight b masks.now moment.room) }
-    ensures { Turned n q b masks.now costs.now starts.now moment.time caps.new
-        seats.new counts.new next.new prev.new out.new by.new result }
+    requires { (SoFar demand b masks.now caps.old board.old by.old moment) × (b < demand.q) × (Tight b masks.now moment.room) }
+    ensures { Turned demand.entry b masks.now moment.time caps.new board.new by.new result }
 {
-    let time = moment.time;
-    let room = moment.room;
-    let hit = search::displace(
-        n, q, b, 0, 0, room, masks, seats, counts, next, prev, out, by,
-    );
-    match hit {
+    let Moment { time, room } = moment;
+    let task = Task {
+        n: demand.n,
+        q: demand.q,
+        b,
+        base: 0,
+        bound: 0,
+        room,
+    };
+    match search::displace(task, masks, board, by) {
         Hit::Free(d, _) => Moment {
             time,
-            room: places::reopen(n, d, caps, counts, room),
+            room: board.reopen(demand.n, d, caps, room),
         },
-        Hit::Stuck(x) => raise(n, q, b, costs, starts, time, x, masks, caps, counts),
+        Hit::Stuck(x) => raise(demand, b, time, x, masks, caps, board),
     }
 }
 
 // Block b on a disk at this time; or a later time, if it is stuck.
 fn seat(
-    n: usize,
-    q: usize,
+    demand: Demand,
     b: usize,
-    costs: &[u32],
-    starts: &[u32],
     masks: &Masks,
     caps: &mut Capacities,
-    seats: &mut Seats,
-    counts: &mut Counts,
-    next: &mut Links,
-    prev: &mut Links,
-    out: &mut Reaches,
+    board: &mut Board,
     by: &mut Steps,
     moment: Moment,
 ) -> Moment
-    requires { (SoFar n q b masks.now costs.now starts.now caps.old seats.old counts.old next.old prev.old out.old
-        by.old moment.time moment.room)
-        × (b < q) }
-    ensures { Turned n q b masks.now costs.now starts.now moment.time caps.new
-        seats.new counts.new next.new prev.new out.new by.new result }
+    requires { (SoFar demand b masks.now caps.old board.old by.old moment) × (b < demand.q) }
+    ensures { Turned demand.entry b masks.now moment.time caps.new board.new by.new result }
 {
-    let time = moment.time;
-    let room = moment.room;
-    let d = mask::lowest(mask::both(masks[b], room));
-    if d < DISKS {
-        places::shift(b, d, masks, seats, counts, next, prev, out);
+    let Moment { time, room } = moment;
+    if let Some(d) = mask::lowest(mask::both(masks[b], room)) {
+        board.shift(b, d, masks);
         return Moment {
             time,
-            room: places::reopen(n, d, caps, counts, room),
+            room: board.reopen(demand.n, d, caps, room),
         };
     }
-    make_way(
-        n, q, b, costs, starts, masks, caps, seats, counts, next, prev, out, by, moment,
-    )
+    make_way(demand, b, masks, caps, board, by, moment)
 }
 
 // The least time, with a schedule in that time: block after block is placed, and where one is stuck the time rises to the earliest time
 // of a set that is short. That is Newton's method on the dual, the greatest earliest time of any set; 001's Algorithm 4 rises by one end
 // at a time.
-pub fn least(
-    n: usize,
-    q: usize,
-    costs: &[u32],
-    starts: &[u32],
-    masks: &Masks,
-    caps: &mut Capacities,
-    seats: &mut Seats,
-    counts: &mut Counts,
-    next: &mut Links,
-    prev: &mut Links,
-    out: &mut Reaches,
-) -> u32
-    requires { Blank n q masks.now costs.now starts.now caps.old seats.old counts.old next.old prev.old out.old }
-    ensures { Least n q masks.now costs.now starts.now caps.new seats.new
-        counts.new next.new prev.new out.new result }
+pub fn least(demand: Demand, masks: &Masks, caps: &mut Capacities, board: &mut Board) -> u32
+    requires { Blank demand masks.now caps.old board.old }
+    ensures { Least demand.entry masks.now caps.new board.new result }
 {
     let mut by = [0u16; PLACES];
     let mut moment = Moment { time: 0, room: 0 };
-    capacity::capacities(n, costs, starts, 0, caps);
-    let mut b = 0;
-    while b < q {
-        moment = seat(
-            n, q, b, costs, starts, masks, caps, seats, counts, next, prev, out, &mut by, moment,
-        );
-        if seats[b] as usize != n {
-            b += 1;
+    capacity::capacities(demand.n, demand.rates, 0, caps);
+    for b in 0..demand.q {
+        // No count tells when: until the block has a disk.
+        while board.seats[b] as usize == demand.n {
+            moment = seat(demand, b, masks, caps, board, &mut by, moment);
         }
     }
     moment.time
 }
 
-// One microsecond sooner.
-fn sooner(t: u32) -> u32
-    ensures { result ≡ t - 1 }
-{
-    if t == 0 { 0 } else { t - 1 }
-}
-
 // As many blocks on disks as there is room for at time t, wherever they were before; the disks reached from those left over.
-fn fill_at(
-    n: usize,
-    q: usize,
-    costs: &[u32],
-    starts: &[u32],
-    t: u32,
-    masks: &Masks,
-    caps: &mut Capacities,
-    seats: &mut Seats,
-    counts: &mut Counts,
-    next: &mut Links,
-    prev: &mut Links,
-    out: &mut Reaches,
-) -> u64
-    requires { Filling n q masks.now costs.now starts.now caps.old seats.old counts.old next.old prev.old out.old }
-    ensures { FilledAt n q masks.now costs.now starts.now t caps.new
-        seats.new counts.new next.new prev.new out.new result }
+fn fill_at(demand: Demand, t: u32, masks: &Masks, caps: &mut Capacities, board: &mut Board) -> u64
+    requires { Filling demand masks.now caps.old board.old }
+    ensures { FilledAt demand.entry masks.now t caps.new board.new result }
 {
-    capacity::capacities(n, costs, starts, t, caps);
-    places::lift(n, q, masks, caps, seats, counts, next, prev, out);
-    fill::place_all(n, q, masks, caps, seats, counts, next, prev, out)
+    let Demand { n, q, rates } = demand;
+    capacity::capacities(n, rates, t, caps);
+    board.lift(n, q, masks, caps);
+    fill::place_all(n, q, masks, caps, board)
 }
 
 // The disks of the short set just before time t; afterwards there is a schedule in time t again, perhaps another one.
 pub fn short_disks(
-    n: usize,
-    q: usize,
-    costs: &[u32],
-    starts: &[u32],
+    demand: Demand,
     t: u32,
     masks: &Masks,
     caps: &mut Capacities,
-    seats: &mut Seats,
-    counts: &mut Counts,
-    next: &mut Links,
-    prev: &mut Links,
-    out: &mut Reaches,
+    board: &mut Board,
 ) -> u64
-    requires { (Table n costs.now starts.now) × (Copies n q masks.now) ×
-        (Timed n q masks.now costs.now starts.now t caps.old seats.old counts.old next.old prev.old out.old) }
-    ensures { Restored n q masks.now costs.now starts.now t caps.new
-        seats.new counts.new next.new prev.new out.new result }
+    requires { (Priced demand.n demand.rates) × (Copies demand.n demand.q masks.now) × (Timed demand masks.now t caps.old board.old) }
+    ensures { Restored demand.entry masks.now t caps.new board.new result }
 {
-    let before = sooner(t);
-    let x = fill_at(
-        n, q, costs, starts, before, masks, caps, seats, counts, next, prev, out,
-    );
-    fill_at(
-        n, q, costs, starts, t, masks, caps, seats, counts, next, prev, out,
-    );
+    let x = fill_at(demand, t.saturating_sub(1), masks, caps, board);
+    fill_at(demand, t, masks, caps, board);
     x
 }

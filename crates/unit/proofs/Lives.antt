@@ -1,6 +1,6 @@
 -- Laws of the calls: what each comes to, case by case.
 use mathlib.Core.Path.{◌≡◌, refl, sym, ap, ◌∙◌}
-use mathlib.Core.Bool.{true, false, ◌&&◌}
+use mathlib.Core.Bool.{Bool, true, false, not}
 use mathlib.Core.List.{List}
 use Prim.Native.Nat.{ℕ, ◌≤◌, ◌<◌}
 use native.Mathlib.Omega.{arith}
@@ -9,19 +9,19 @@ use lib.Dec.{eqb}
 use lib.ListN.{get_or}
 use Rattle.basics.specs.Choice.{pick}
 use Rattle.basics.proofs.Choice.{pick_true, pick_false}
-use Rattle.field.specs.Refusal.{note_of}
+use Rattle.std.specs.Prelude.{Result, Ok, Err}
 use Rattle.field.specs.declared.Fault.{Fault}
 use Rattle.field.specs.Field.{opening}
+use Rattle.field.specs.Refusal.{note_of}
+use Rattle.field.specs.Told.{told_by}
 use Rattle.field.specs.Sheet.{unplaced, Out, got}
-use Rattle.field.specs.declared.Verdict.TheVariants.{Accepted, Refused}
 use Rattle.model.specs.declared.Rule.TheVariants.{Sum}
-use Rattle.settings.specs.declared.Settings.{Settings}
 use Rattle.settings.specs.declared.Table.{Table}
 use Rattle.settings.specs.Table.{table, no_table}
 use Rattle.settings.specs.Row.{no_disk}
 use Rattle.settings.specs.Sheet.{kinds, rule_in, settings_sheet}
-use Rattle.settings.specs.Told.{told_by, Told}
 use Rattle.settings.proofs.Accepted.{accepted_rule, marks_none, none_proper, proper_zero}
+use Rattle.settings.specs.Told.{Told}
 use Rattle.unit.specs.declared.Unit.{Unit}
 use Rattle.unit.specs.Life.{takes, refuses, rent, settled, set, give_back}
 use Rattle.unit.specs.Unit.{new_unit, tenancy_of, tenanted, with_table, returned}
@@ -43,6 +43,15 @@ no_marks i = ap (λ r. r.mark) (proper_zero none_proper i (omega arith))
 pub new_marks : (n i : ℕ) → (get_or (new_unit n).table.rows i no_disk).mark ≡ 0
 unfolding new_unit
 new_marks n i = no_marks i
+
+-- what a test for not rented says
+pub not_rented : (b : Bool) → not b ≡ true → b ≡ false
+not_rented true h = sym h
+not_rented false h = refl
+
+pub is_rented : (b : Bool) → not b ≡ false → b ≡ true
+is_rented true h = refl
+is_rented false h = sym h
 
 module _ (u : Unit) where
   pub tenancy_rented : u.rented ≡ true → tenancy_of u ≡ u.last
@@ -73,7 +82,7 @@ module _ (u : Unit) where
     rent_anew h l x e = rent_taken h l ∙ ap (λ y. takes (record { number = u.number; last = t; rented = true; table = y })) (sym e)
 
     pub back_taken : u.rented ≡ true → t ≡ u.last → give_back u t ≡ takes (returned u)
-    unfolding give_back ◌&&◌
+    unfolding give_back
     back_taken h e = rw (h, eq-eqb t u.last e) (pick_true _ _ refl)
 
     pub back_anew : u.rented ≡ true → t ≡ u.last → (x : Table) → x ≡ no_table
@@ -82,23 +91,23 @@ module _ (u : Unit) where
     back_anew h q x e = back_taken h q ∙ ap (λ y. takes (record { number = u.number; last = u.last; rented = false; table = y })) (sym e)
 
     pub back_other : u.rented ≡ true → (t ≡ u.last → ⊥) → give_back u t ≡ refuses u (unplaced 14)
-    unfolding give_back ◌&&◌
+    unfolding give_back
     back_other h e = rw (h, ne_eqb t u.last e) (pick_false _ _ refl)
 
     pub back_free : u.rented ≡ false → give_back u t ≡ refuses u (unplaced 14)
-    unfolding give_back ◌&&◌
+    unfolding give_back
     back_free h = rw h (pick_false _ _ refl)
 
   -- ---- what the reader of settings said
 
-  module _ (n : ℕ) (o : Out Table) (r : Settings) (h : Told n o r) where
-    pub settled_accepted : r.answer ≡ Accepted → settled u o ≡ takes (with_table u r.table)
-    unfolding settled told_by
-    settled_accepted e = ap (settled u) (sym (ap (λ a. told_by n a r.table) (sym e) ∙ h.answer))
+  module _ (n : ℕ) (o : Out Table) (r : Result Table Fault) (h : Told n o r) where
+    pub settled_accepted : {t : Table} → r ≡ Ok t → settled u o ≡ takes (with_table u t)
+    unfolding settled
+    settled_accepted e = ap (settled u) (sym h ∙ ap (told_by (λ t. got t n)) e)
 
-    pub settled_refused : (e : Fault) → r.answer ≡ Refused e → settled u o ≡ refuses u (note_of e)
-    unfolding settled told_by
-    settled_refused e q = ap (settled u) (sym (ap (λ a. told_by n a r.table) (sym q) ∙ h.answer))
+    pub settled_refused : (e : Fault) → r ≡ Err e → settled u o ≡ refuses u (note_of e)
+    unfolding settled
+    settled_refused e q = ap (settled u) (sym h ∙ ap (told_by (λ t. got t n)) q)
 
   -- ---- the start rule and the marks
 
@@ -123,12 +132,12 @@ module _ (u : Unit) where
   module _ (s : List ℕ) {T : Table} {e k m : ℕ} (h : settings_sheet u.number (tenancy_of u) s 0 ≡ got T e)
       (o : opening kinds u.number (tenancy_of u) s 0 ≡ got k m) (f : eqb k 6 ≡ false) where
     pub set_rule : (set u s).unit.table.rule ≡ rule_in (pick (eqb k 5) 2 1)
-    unfolding set settled takes
+    unfolding set settled
     set_rule =
         ap (λ (x : Out Table). (settled u x).unit.table.rule) h ∙ accepted_rule u.number (tenancy_of u) s T e k m h o f
 
     pub set_marks : (i : ℕ) → (get_or (set u s).unit.table.rows i no_disk).mark ≡ 0
-    unfolding set settled takes
+    unfolding set settled
     set_marks i =
         ap (λ (x : Out Table). (get_or (settled u x).unit.table.rows i no_disk).mark) h
         ∙ marks_none u.number (tenancy_of u) s T e k m h o f i

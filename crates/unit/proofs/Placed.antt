@@ -6,11 +6,10 @@ use mathlib.Core.Path.{◌≡◌, sym, ap, ◌∙◌}
 use mathlib.Core.List.{List}
 use native.Mathlib.Omega.{arith}
 use lib.ListN.{length}
+use Rattle.std.specs.Prelude.{Err}
 use Rattle.model.specs.Case.{Case}
 use Rattle.field.specs.declared.Fault.{Fault}
 use Rattle.field.specs.declared.Refusal.TheVariants.{NoRoom}
-use Rattle.field.specs.declared.Verdict.TheVariants.{Refused as Denied}
-use Rattle.field.specs.declared.Written.TheVariants.{Refused}
 use Rattle.field.specs.Refusal.{note_of}
 use Rattle.field.specs.Sheet.{Note, Out, got, refused}
 use Rattle.field.proofs.Unique.{number_injective}
@@ -24,7 +23,7 @@ use Rattle.planner.proofs.Answers.{Unsent, denied, longer, answered_none}
 use Rattle.unit.specs.declared.Done.{Done}
 use Rattle.unit.specs.declared.Requested.{Requested}
 use Rattle.unit.specs.declared.Unit.{Unit}
-use Rattle.unit.specs.Life.{refused as refused_with, Outcome, takes, refuses, settled, set}
+use Rattle.unit.specs.Life.{refused as refused_with, Outcome, settled, set}
 use Rattle.unit.specs.Request.{asked_of, Replied}
 use Rattle.unit.specs.Told.{told_verdict, told}
 use Rattle.unit.specs.Unit.{tenancy_of}
@@ -32,12 +31,12 @@ use Rattle.unit.proofs.Replies.{replied_as}
 
 settled_placed : (u : Unit) (s : List ℕ) (o : Out Table) (n : Note) → (o ≡ refused n → n.place ≤ length s)
     → (settled u o).verdict ≡ refused_with n → n.place ≤ length s
-unfolding settled takes refuses
+unfolding settled
 settled_placed u s (got t e) n f h = absurd (let z : ◌≡◌ {A = ℕ} 0 1 = cc in omega arith)
 settled_placed u s (refused m) n f h = let e : m ≡ n = cc in f (ap refused e)
 
-pub set_placed : (u : Unit) (s : List ℕ) (d : Done) (f : Fault) → told d ≡ set u s → d.answer ≡ Denied f → f.place ≤ length s
-unfolding told told_verdict set
+pub set_placed : (u : Unit) (s : List ℕ) (d : Done) (f : Fault) → told d ≡ set u s → d.answer ≡ Err f → f.place ≤ length s
+unfolding set
 set_placed u s d f h q =
     settled_placed u s (settings_sheet u.number (tenancy_of u) s 0) (note_of f) (λ e. settings_placed u.number (tenancy_of u) s e)
     (sym (ap (λ (o : Outcome). o.verdict) h) ∙ ap told_verdict q)
@@ -62,6 +61,6 @@ module _ (u : Unit) (s out : List ℕ) where
       absurd (o (number_injective f.refusal NoRoom (ap (λ (x : Note). x.number) e)))
 
   pub replied_placed : {after : List ℕ} {r : Requested} (f : Fault) → Replied u s out r after
-      → r.answer ≡ Refused f → (f.refusal ≡ NoRoom → ⊥)
+      → r.answer ≡ Err f → (f.refusal ≡ NoRoom → ⊥)
       → f.place ≤ length s
   replied_placed f a h o = unsent_placed f o (answered_none (replied_as a h))

@@ -14,7 +14,7 @@ use Rattle.settings.specs.Table.{table, no_table}
 use Rattle.settings.specs.Sheet.{settings_sheet}
 use Rattle.settings.proofs.Accepted.{accepted_proper, accepted_tenancy, none_proper}
 use Rattle.unit.specs.declared.Unit.{Unit}
-use Rattle.unit.specs.Life.{Outcome, takes, refuses, rent, settled, set, give_back}
+use Rattle.unit.specs.Life.{Outcome, rent, settled, set, give_back}
 use Rattle.unit.specs.Sound.{Sound}
 use Rattle.unit.specs.Unit.{new_unit, tenancy_of, tenanted, returned}
 use Rattle.unit.proofs.Lives.{tenancy_free}
@@ -30,7 +30,7 @@ module _ (u : Unit) (w : Sound u) where
   free_sum h = ap (λ (x : Table). x.rule) (w.cleared h)
 
   pub sound_rent : (t : ℕ) → Sound (rent u t).unit
-  unfolding rent takes refuses tenanted
+  unfolding rent tenanted
   sound_rent t =
       pick_elim (λ (o : Outcome). Sound o.unit) u.rented _ _ (λ _. w) λ f.
       pick_elim (λ (o : Outcome). Sound o.unit) (ltb u.last t) _ _
@@ -42,7 +42,7 @@ module _ (u : Unit) (w : Sound u) where
       (λ _. w)
 
   pub sound_back : (t : ℕ) → Sound (give_back u t).unit
-  unfolding give_back takes refuses returned
+  unfolding give_back returned
   sound_back t =
       pick_elim (λ (o : Outcome). Sound o.unit) (u.rented && eqb t u.last) _ _
       (λ _. record { tenancy = λ h. absurd (let z : ◌≡◌ {A = ℕ} 0 1 = cc in omega arith); cleared = λ _. refl; proper = none_proper })
@@ -50,7 +50,7 @@ module _ (u : Unit) (w : Sound u) where
 
   -- what a settings sheet said, whatever it was
   settled_sound : (s : List ℕ) (o : Out Table) → settings_sheet u.number (tenancy_of u) s 0 ≡ o → Sound (settled u o).unit
-  unfolding settled takes refuses
+  unfolding settled
   settled_sound s (refused_sheet n) h = w
   settled_sound s (got T e) h =
       record {

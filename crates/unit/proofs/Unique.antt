@@ -2,9 +2,9 @@
 use mathlib.Core.Path.{◌≡◌, refl, sym, ap, ◌∙◌}
 use mathlib.Core.List.{List}
 use Prim.Native.Nat.{ℕ}
+use Rattle.std.specs.Prelude.{Result, Ok, Err}
 use Rattle.field.specs.Refusal.{note_of}
-use Rattle.field.specs.declared.Verdict.{Verdict}
-use Rattle.field.specs.declared.Verdict.TheVariants.{Accepted, Refused}
+use Rattle.field.specs.declared.Fault.{Fault}
 use Rattle.field.proofs.Unique.{note_injective}
 use Rattle.planner.specs.Lists.{Asks}
 use Rattle.planner.specs.declared.Spelling.{Spelling}
@@ -17,16 +17,14 @@ use Rattle.unit.specs.Request.{asked_of, Replied}
 use Rattle.unit.specs.Told.{told_verdict, told}
 use Rattle.unit.specs.Unit.{new_unit, tenancy_of}
 
-told_injective : (a b : Verdict) → told_verdict a ≡ told_verdict b → a ≡ b
-unfolding told_verdict
-told_injective Accepted Accepted h = refl
-told_injective Accepted (Refused e) h = cc
-told_injective (Refused e) Accepted h = cc
-told_injective (Refused e) (Refused f) h = let n : note_of e ≡ note_of f = cc in ap Refused (note_injective e f n)
+told_injective : (a b : Result Unit Fault) → told_verdict a ≡ told_verdict b → a ≡ b
+told_injective (Ok a) (Ok b) h = refl
+told_injective (Ok a) (Err f) h = cc
+told_injective (Err e) (Ok b) h = cc
+told_injective (Err e) (Err f) h = let n : note_of e ≡ note_of f = cc in ap Err (note_injective e f n)
 
 -- `rent`, `settings` and `give_back`: whatever the definition says, one answer with one unit says it
 pub done_unique : (o : Outcome) (a b : Done) → told a ≡ o → told b ≡ o → a ≡ b
-unfolding told
 done_unique o a b p q =
     let e : a.answer ≡ b.answer = told_injective a.answer b.answer (ap (λ (x : Outcome). x.verdict) (p ∙ sym q)) in
     let u : a.unit ≡ b.unit = ap (λ (x : Outcome). x.unit) (p ∙ sym q) in
@@ -43,7 +41,7 @@ request_unique {a = a} {b = b} p q =
     )
 
 -- `ask`: the answer and all lists
-pub ask_unique : (u : Shelf) (s : List ℕ) {n : ℕ} {a b : Spelling} → Asks (asked_of u s) n a → Asks (asked_of u s) n b → a ≡ b
+pub ask_unique : (u : Shelf) (s : List ℕ) {n : ℕ} {a b : Result Spelling Fault} → Asks (asked_of u s) n a → Asks (asked_of u s) n b → a ≡ b
 ask_unique u s p q = spelling_unique p q
 
 -- `new`, `number` and `tenancy` are the value

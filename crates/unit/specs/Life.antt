@@ -19,11 +19,11 @@ pub record Outcome : Type 0 where
   pub unit : Unit
 
 -- accepted, with the unit that comes of it
-unfoldable pub takes : Unit → Outcome
+abbrev pub takes : Unit → Outcome
 takes u = record { verdict = accepted; unit = u }
 
 -- refused, with the unit as it was
-unfoldable pub refuses : Unit → Note → Outcome
+abbrev pub refuses : Unit → Note → Outcome
 refuses u n = record { verdict = refused n; unit = u }
 
 -- Rent t: 12 while rented, 13 if t is not above the last tenancy

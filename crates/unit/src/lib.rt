@@ -2,18 +2,21 @@
 #![tactic(auto)]
 
 ghost use Rattle.std.specs.Prelude.{◌≡◌, length};
+ghost use Rattle.field.specs.Refusal.{note_of};
 ghost use Rattle.planner.specs.Lists.{Asks};
-ghost use Rattle.unit.specs.Life.{rent, set, give_back};
+ghost use Rattle.unit.specs.Life.{takes, refuses, rent, set, give_back};
 ghost use Rattle.unit.specs.Request.{asked_of, Replied};
 ghost use Rattle.unit.specs.Sound.{Sound};
 ghost use Rattle.unit.specs.Told.{told};
-ghost use Rattle.unit.specs.Unit.{new_unit, tenancy_of, with_table};
+ghost use Rattle.unit.specs.Unit.{new_unit, tenancy_of};
 
-use field::{Fault, Refusal, Verdict, Written};
+use field::{Fault, Refusal};
 use planner::Spelling;
 use settings::Table;
 
-// A unit's number, the last tenancy accepted, whether it is rented, and its table of disks.
+// A unit's number, the last tenancy accepted, whether it is rented, and its table of disks. `rented` stands beside `last`: after a return
+// the last tenancy remains (`returned_bare`). That a unit is sound is a premise (`Sound`): theorems equate units (`rent_same`, `rent_new`),
+// and a ghost fact in the struct would be equated with them.
 #[derive(Clone, Copy)]
 pub struct Unit {
     number: u32,
@@ -25,14 +28,14 @@ pub struct Unit {
 // What a call answers, with the unit afterwards.
 #[derive(Clone, Copy)]
 pub struct Done {
-    pub answer: Verdict,
+    pub answer: Result<(), Fault>,
     pub unit: Unit,
 }
 
 // What a read request answers, the length of the plan sheet written or the refusal, with the unit afterwards.
 #[derive(Clone, Copy)]
 pub struct Requested {
-    pub answer: Written,
+    pub answer: Result<usize, Fault>,
     pub unit: Unit,
 }
 
@@ -41,12 +44,11 @@ impl Unit {
     pub fn new(number: u32) -> Unit
         ensures { result ≡ new_unit number }
     {
-        let table = settings::empty();
         Unit {
             number,
             last: 0,
             rented: false,
-            table,
+            table: settings::empty(),
         }
     }
 
@@ -56,11 +58,31 @@ impl Unit {
         self.number
     }
 
-    // The tenancy that a sheet must name; 0 stands for not rented.
+    // The tenancy that a sheet must name; 0 stands for not rented. 0 is document 01's own: no tenancy is 0 (`tenancy` of field).
     pub fn tenancy(self) -> u32
         ensures { result ≡ tenancy_of self }
     {
         if self.rented { self.last } else { 0 }
+    }
+
+    // A call was accepted, and leaves the unit so.
+    fn accepted(self) -> Done
+        ensures { told result ≡ takes self }
+    {
+        Done {
+            answer: Ok(()),
+            unit: self,
+        }
+    }
+
+    // A call was refused, and leaves the unit as it was.
+    fn refused(self, fault: Fault) -> Done
+        ensures { told result ≡ refuses self (note_of fault) }
+    {
+        Done {
+            answer: Err(fault),
+            unit: self,
+        }
     }
 
     // Rents the unit. The table is cleared here too, though a returned unit has none.
@@ -68,60 +90,27 @@ impl Unit {
         ensures { told result ≡ rent self tenancy }
     {
         if self.rented {
-            return Done {
-                answer: Verdict::Refused(Fault {
-                    refusal: Refusal::Rented,
-                    place: 0,
-                }),
-                unit: self,
-            };
+            return self.refused(Refusal::Rented.at(0));
         }
         if tenancy <= self.last {
-            return Done {
-                answer: Verdict::Refused(Fault {
-                    refusal: Refusal::NotAbove,
-                    place: 0,
-                }),
-                unit: self,
-            };
+            return self.refused(Refusal::NotAbove.at(0));
         }
         self.last = tenancy;
         self.rented = true;
         self.table = settings::empty();
-        Done {
-            answer: Verdict::Accepted,
-            unit: self,
-        }
+        self.accepted()
     }
 
-    // The whole table replaced.
-    fn with_table(mut self, table: Table) -> Unit
-        ensures { result ≡ with_table self table }
-    {
-        self.table = table;
-        self
-    }
-
-    // Takes a settings sheet.
+    // Takes a settings sheet: the whole table is replaced.
     pub fn settings(mut self, sheet: &[u8]) -> Done
         ensures { told result ≡ set self sheet.now }
     {
-        let number = self.number;
-        let said = settings::read(sheet, number, self.tenancy());
-        let answer = said.answer;
-        match answer {
-            Verdict::Accepted => {
-                let table = said.table;
-                self = self.with_table(table);
-                Done {
-                    answer: Verdict::Accepted,
-                    unit: self,
-                }
+        match settings::read(sheet, self.number, self.tenancy()) {
+            Ok(table) => {
+                self.table = table;
+                self.accepted()
             }
-            Verdict::Refused(e) => Done {
-                answer: Verdict::Refused(e),
-                unit: self,
-            },
+            Err(e) => self.refused(e),
         }
     }
 
@@ -129,34 +118,20 @@ impl Unit {
     pub fn give_back(mut self, tenancy: u32) -> Done
         ensures { told result ≡ give_back self tenancy }
     {
-        if self.rented {
-            if tenancy == self.last {
-                self.rented = false;
-                self.table = settings::empty();
-                return Done {
-                    answer: Verdict::Accepted,
-                    unit: self,
-                };
-            }
+        if !self.rented || tenancy != self.last {
+            return self.refused(Refusal::NotTheTenant.at(0));
         }
-        Done {
-            answer: Verdict::Refused(Fault {
-                refusal: Refusal::NotTheTenant,
-                place: 0,
-            }),
-            unit: self,
-        }
+        self.rented = false;
+        self.table = settings::empty();
+        self.accepted()
     }
 
     // The case that the unit and a request sheet spell, as lists.
-    pub fn ask(self, sheet: &[u8]) -> Spelling
+    pub fn ask(self, sheet: &[u8]) -> Result<Spelling, Fault>
         requires { Sound self }
         ensures { Asks (asked_of self sheet.now) (length sheet.now) result }
     {
-        let number = self.number;
-        let table = self.table;
-        let tenancy = self.tenancy();
-        planner::ask(number, tenancy, table, sheet)
+        planner::ask(self.number, self.tenancy(), self.table, sheet)
     }
 
     // Answers a read request with the sheet of its plan, at the start of a lent buffer.
@@ -164,10 +139,9 @@ impl Unit {
         requires { Sound self }
         ensures { Replied self sheet.now out.old result out.new }
     {
-        let number = self.number;
-        let table = self.table;
-        let tenancy = self.tenancy();
-        let answer = planner::plan_into(number, tenancy, table, sheet, out);
-        Requested { answer, unit: self }
+        Requested {
+            answer: planner::plan_into(self.number, self.tenancy(), self.table, sheet, out),
+            unit: self,
+        }
     }
 }

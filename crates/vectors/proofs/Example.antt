@@ -7,6 +7,7 @@ use native.Mathlib.Omega.{arith}
 use borrow.Author.Tests.{eqb-true, eq-eqb}
 use lib.Dec.{eqb}
 use lib.ListN.{get_or, take, replicate}
+use Rattle.std.specs.Prelude.{Ok}
 use Rattle.model.specs.Assignment.{reads, Valid}
 use Rattle.model.specs.Capacity.{end_time}
 use Rattle.model.specs.declared.Rule.TheVariants.{Sum}
@@ -14,7 +15,6 @@ use Rattle.model.specs.Case.{Case, left, starting, base, Schedule, end_of, respo
 use Rattle.model.specs.Figures.{paper, asked}
 use Rattle.model.specs.Plan.{Optimal}
 use Rattle.model.specs.Time.{LeastTime}
-use Rattle.field.specs.declared.Written.TheVariants.{Length}
 use Rattle.basics.specs.Choice.{pick}
 use Rattle.basics.specs.Count.{bit, sum, count, latest}
 use Rattle.basics.specs.Lists.{All, Rises, listed}
@@ -67,7 +67,7 @@ plan_example =
     }
 
 -- the unit answers document 01's request with document 01's plan sheet
-pub request_example : Replied ready request (replicate 16 0xEE) (record { answer = Length 15; unit = ready })
+pub request_example : Replied ready request (replicate 16 0xEE) (record { answer = Ok 15; unit = ready })
     (bytes "03 07 AC 02 04 09 00 00 01 01 04 00 01 02 03 EE")
 unfolding unit_opened plan_opened
 request_example = record {
@@ -103,7 +103,7 @@ plan_aged =
     }
 
 -- the unit answers a request of kind 4 with the plan of the loads that are left
-pub request_aged : Replied ready aged_example (replicate 14 0xEE) (record { answer = Length 13; unit = ready })
+pub request_aged : Replied ready aged_example (replicate 14 0xEE) (record { answer = Ok 13; unit = ready })
     (bytes "03 07 AC 02 03 06 00 01 01 03 00 01 02 EE")
 unfolding unit_opened plan_opened
 request_aged = record {

@@ -1,6 +1,7 @@
 -- Numbers on a sheet: document 01's own examples, read and written.
 use mathlib.Core.Path.{◌≡◌, refl}
 use mathlib.Core.List.{[], ◌∷◌, map}
+use Rattle.std.specs.Prelude.{None}
 use Rattle.number.specs.Decode.{value, refused, decode}
 use Rattle.number.specs.Encode.{encode, width_of, WroteNumber}
 use Rattle.vectors.specs.Text.{bytes}
@@ -69,6 +70,6 @@ unfolding number_opened
 spelled = refl
 
 -- without room nothing has changed
-write_no_room : WroteNumber 128 (bytes "AA") 0 (bytes "AA")
+write_no_room : WroteNumber 128 (bytes "AA") None (bytes "AA")
 unfolding number_opened
 write_no_room = record { count = refl; left = refl }

@@ -6,6 +6,7 @@ use mathlib.Core.List.{List, [], ◌∷◌, ◌++◌}
 use mathlib.Core.Path.{◌≡◌, refl, sym, ap, ◌∙◌, subst, fun_ext}
 use native.Mathlib.Omega.{arith}
 use lib.ListN.{get_or, replicate}
+use Rattle.std.specs.Prelude.{Ok}
 use Rattle.basics.specs.Choice.{pick}
 use Rattle.basics.specs.Count.{bit, gate, sum, count, any, latest}
 use Rattle.basics.specs.Lists.{Rises, listed}
@@ -18,7 +19,6 @@ use Rattle.model.specs.Capacity.{end_time, capacity}
 use Rattle.model.specs.Case.{Case, left, starting, end_of, response, capacity_at}
 use Rattle.model.specs.Plan.{Optimal}
 use Rattle.model.specs.Shortfall.{touches, room}
-use Rattle.field.specs.declared.Written.TheVariants.{Length}
 use Rattle.field.specs.Sheet.{note, got, refused}
 use Rattle.settings.specs.Row.{disk}
 use Rattle.settings.specs.Table.{table, disk_rows, costs}
@@ -76,7 +76,7 @@ out_planned =
     (subst (λ (m : Case). Optimal m 10 (λ b. get_or (2 ∷ []) b 0) (listed (0 ∷ []))) same_out out_optimal)
 
 -- R is 10 on disk 2, where disk 0 would end at 9; at 9 block 0 is short, since the capacity of disk 0 does not count
-pub answer_out : Replied marked request_out (replicate 10 0xEE) (record { answer = Length 9; unit = marked })
+pub answer_out : Replied marked request_out (replicate 10 0xEE) (record { answer = Ok 9; unit = marked })
     (bytes "03 07 AC 02 01 0A 02 01 00 EE")
 unfolding unit_opened plan_opened
 answer_out = record {

@@ -11,6 +11,7 @@ use native.Mathlib.Omega.{arith}
 use borrow.Author.Tests.{eqb-true, eq-eqb}
 use lib.Dec.{eqb}
 use lib.ListN.{length, get_or, replicate}
+use Rattle.std.specs.Prelude.{Ok}
 use Rattle.basics.specs.Choice.{pick}
 use Rattle.basics.specs.Count.{bit, gate, sum, count, any, latest}
 use Rattle.basics.specs.Lists.{Rises, listed}
@@ -26,7 +27,6 @@ use Rattle.model.specs.Order.{Before}
 use Rattle.model.specs.Plan.{Optimal}
 use Rattle.model.specs.Shortfall.{touches, size, room, Sub, NoShorter, Greatest}
 use Rattle.engine.specs.Spelled.{spelled}
-use Rattle.field.specs.declared.Written.TheVariants.{Length}
 use Rattle.field.specs.Sheet.{got}
 use Rattle.settings.specs.declared.Table.{Table}
 use Rattle.settings.specs.Sheet.{settings_sheet}
@@ -89,7 +89,7 @@ larger_planned =
     (subst (λ (m : Case). Optimal m 11 (λ b. get_or (0 ∷ 0 ∷ 1 ∷ []) b 0) (listed (0 ∷ 1 ∷ 2 ∷ []))) same_larger P13)
 
 -- R is 11, the disks are 0 0 1, the short set is 0 1 2
-pub answer_larger : Replied overlapped request_larger (replicate 14 0xEE) (record { answer = Length 13; unit = overlapped })
+pub answer_larger : Replied overlapped request_larger (replicate 14 0xEE) (record { answer = Ok 13; unit = overlapped })
     (bytes "03 07 AC 02 03 0B 00 00 01 03 00 01 02 EE")
 unfolding unit_opened plan_opened
 answer_larger = record {
@@ -116,7 +116,7 @@ aged_planned =
     (subst (λ (m : Case). Optimal m 10 (λ b. get_or (0 ∷ 0 ∷ []) b 0) (listed (0 ∷ 1 ∷ []))) same_aged P14)
 
 -- the age is off the load before the rule is applied: R is 10, the disks are 0 0, the short set is 0 1
-pub answer_aged : Replied overlapped request_aged (replicate 12 0xEE) (record { answer = Length 11; unit = overlapped })
+pub answer_aged : Replied overlapped request_aged (replicate 12 0xEE) (record { answer = Ok 11; unit = overlapped })
     (bytes "03 07 AC 02 02 0A 00 00 02 00 01 EE")
 unfolding unit_opened plan_opened
 answer_aged = record {
@@ -143,7 +143,7 @@ one_planned =
     (subst (λ (m : Case). Optimal m 7 (λ b. get_or (0 ∷ []) b 0) (listed (0 ∷ []))) same_one P15)
 
 -- one block of cost 4 on a disk of load 3 and delay 2: R is 7
-pub answer_one : Replied overlapped request_one (replicate 10 0xEE) (record { answer = Length 9; unit = overlapped })
+pub answer_one : Replied overlapped request_one (replicate 10 0xEE) (record { answer = Ok 9; unit = overlapped })
     (bytes "03 07 AC 02 01 07 00 01 00 EE")
 unfolding unit_opened plan_opened
 answer_one = record {
@@ -232,7 +232,7 @@ sum_planned =
     (subst (λ (m : Case). Optimal m 9 (λ b. get_or (0 ∷ []) b 0) (listed (0 ∷ []))) same_sum sum_optimal)
 
 -- after settings of kind 1 for the same disks the block starts at 5: R is 9
-pub answer_one_sum : Replied summed request_one (replicate 10 0xEE) (record { answer = Length 9; unit = summed })
+pub answer_one_sum : Replied summed request_one (replicate 10 0xEE) (record { answer = Ok 9; unit = summed })
     (bytes "03 07 AC 02 01 09 00 01 00 EE")
 unfolding unit_opened plan_opened
 answer_one_sum = record {

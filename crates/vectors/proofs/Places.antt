@@ -4,9 +4,9 @@ use mathlib.Core.List.{[], ◌∷◌}
 use Prim.Native.Nat.{◌+◌, ◌*◌, ◌^◌}
 use native.Mathlib.Omega.{arith}
 use lib.ListN.{replicate}
+use Rattle.std.specs.Prelude.{Err}
 use Rattle.field.specs.declared.Fault.{Fault}
 use Rattle.field.specs.declared.Refusal.TheVariants.{NoRoom}
-use Rattle.field.specs.declared.Written.TheVariants.{Refused}
 use Rattle.field.specs.Field.{number}
 use Rattle.field.specs.Refusal.{fault_at}
 use Rattle.field.specs.Send.{none, Sent}
@@ -63,11 +63,11 @@ unfolding settings_opened
 written_load_above = refl
 
 -- 11 telling the buffer's length
-eleven_tells_the_buffer : Sent (settings_draft Sum 7 300 (4 ∷ []) (0 ∷ []) (1 ∷ [])) (replicate 7 0xEE) (Refused (fault_at NoRoom 7))
+eleven_tells_the_buffer : Sent (settings_draft Sum 7 300 (4 ∷ []) (0 ∷ []) (1 ∷ [])) (replicate 7 0xEE) (Err (fault_at NoRoom 7))
     (replicate 7 0xEE) → ⊥
 unfolding settings_opened
 eleven_tells_the_buffer w =
-    let e : Refused (fault_at NoRoom 8) ≡ Refused (fault_at NoRoom 7) = (sent_unique _ _ _ _ _ _ settings.write_no_room w).0 in
+    let e : Err (fault_at NoRoom 8) ≡ Err (fault_at NoRoom 7) = (sent_unique _ _ _ _ _ _ settings.write_no_room w).0 in
     let f : fault_at NoRoom 8 ≡ fault_at NoRoom 7 = cc in
     let z = ap (λ (x : Fault). x.place) f in omega (arith, z)
 

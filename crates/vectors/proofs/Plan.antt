@@ -5,12 +5,11 @@ use Prim.Native.Nat.{ℕ}
 use mathlib.Core.Path.{◌≡◌, refl}
 use mathlib.Core.List.{List, [], ◌∷◌}
 use lib.ListN.{replicate}
+use Rattle.std.specs.Prelude.{Ok, Err}
 use Rattle.field.specs.declared.Refusal.TheVariants.{NoRoom}
-use Rattle.field.specs.declared.Written.TheVariants.{Length, Refused}
 use Rattle.field.specs.Refusal.{fault_at}
 use Rattle.field.specs.Send.{sheet, Sent}
 use Rattle.field.specs.Sheet.{note, refused}
-use Rattle.plan.specs.declared.Answer.TheVariants.{Accepted}
 use Rattle.plan.specs.Draft.{plan_draft}
 use Rattle.plan.specs.Plan.{Plan, plan_sheet}
 use Rattle.plan.specs.Receive.{Received}
@@ -33,7 +32,7 @@ block_at_q = refl
 -- Q, R and m; the disks and the short set stand first, the entries beyond them are as they were
 pub lists_filled :
     Received (plan_sheet 7 300 example 0) 15 (replicate 6 99) (replicate 5 99)
-    (Accepted (record { blocks = 4; time = 9; size = 4 }))
+    (Ok (record { blocks = 4; time = 9; size = 4 }))
     (0 ∷ 0 ∷ 1 ∷ 1 ∷ 99 ∷ 99 ∷ []) (0 ∷ 1 ∷ 2 ∷ 3 ∷ 99 ∷ [])
 unfolding plan_opened
 lists_filled = record { answer = refl; blocks = refl; members = refl }
@@ -47,11 +46,11 @@ unfolding plan_opened
 draft_smaller_set = refl
 
 -- the very length is room enough
-pub write_exact : Sent (plan_draft 7 300 plan) (replicate 15 0xEE) (Length 15) example
+pub write_exact : Sent (plan_draft 7 300 plan) (replicate 15 0xEE) (Ok 15) example
 unfolding plan_opened
 write_exact = record { answer = refl; held = refl }
 
 -- one byte less is 11, and the buffer is as it was
-write_no_room : Sent (plan_draft 7 300 plan) (replicate 14 0xEE) (Refused (fault_at NoRoom 15)) (replicate 14 0xEE)
+write_no_room : Sent (plan_draft 7 300 plan) (replicate 14 0xEE) (Err (fault_at NoRoom 15)) (replicate 14 0xEE)
 unfolding plan_opened
 write_no_room = record { answer = refl; held = refl }

@@ -8,8 +8,8 @@ use mathlib.Core.Bool.{Bool, true, false}
 use mathlib.Core.List.{List, [], ◌∷◌, ◌++◌, map}
 use lib.Dec.{eqb, ltb}
 use lib.ListN.{replicate}
+use Rattle.std.specs.Prelude.{Err}
 use Rattle.field.specs.declared.Refusal.TheVariants.{NoRoom}
-use Rattle.field.specs.declared.Written.TheVariants.{Refused}
 use Rattle.field.specs.Refusal.{fault_at}
 use Rattle.field.specs.Send.{sheet, none, Sent}
 use Rattle.field.specs.Sheet.{note, unplaced, got, refused}
@@ -165,6 +165,6 @@ unfolding request_opened
 draft_no_copies = refl
 
 -- one byte less than the sheet has is 11, and the buffer is as it was
-write_no_room : Sent (request_draft 2 7 300 0 3 (3 ∷ [])) (replicate 7 0xEE) (Refused (fault_at NoRoom 8)) (replicate 7 0xEE)
+write_no_room : Sent (request_draft 2 7 300 0 3 (3 ∷ [])) (replicate 7 0xEE) (Err (fault_at NoRoom 8)) (replicate 7 0xEE)
 unfolding request_opened
 write_no_room = record { answer = refl; held = refl }

@@ -5,8 +5,8 @@ use mathlib.Core.List.{List, [], ◌∷◌}
 use mathlib.Core.Path.{◌≡◌, sym, ap, ◌∙◌}
 use native.Mathlib.Omega.{arith}
 use lib.ListN.{get_or, replicate}
+use Rattle.std.specs.Prelude.{Ok, Err}
 use Rattle.field.specs.declared.Refusal.TheVariants.{NoRoom}
-use Rattle.field.specs.declared.Written.TheVariants.{Length, Refused}
 use Rattle.field.specs.Sheet.{note, unplaced, Out, got, refused}
 use Rattle.field.specs.Refusal.{fault_at}
 use Rattle.field.specs.Send.{Draft, sheet, none, Sent}
@@ -20,7 +20,6 @@ use Rattle.settings.specs.Sheet.{settings_sheet}
 use Rattle.settings.specs.Table.{table, no_table}
 use Rattle.request.specs.Draft.{request_draft}
 use Rattle.request.specs.Request.{request_sheet}
-use Rattle.plan.specs.declared.Answer.TheVariants.{Accepted}
 use Rattle.plan.specs.Draft.{plan_draft}
 use Rattle.plan.specs.Plan.{plan_sheet}
 use Rattle.plan.specs.Receive.{Received}
@@ -91,7 +90,7 @@ unfolding desk_opened numbered judged by byte
 load_and_delay_exchanged h = let z : ◌≡◌ {A = ℕ} 0 1 = apart (byte 6) settings.draft_example h in omega (arith, z)
 
 settings_eleven_that_already_wrote : Sent (settings_draft Sum 7 300 (4 ∷ []) (0 ∷ []) (1 ∷ [])) (replicate 7 0xEE)
-    (Refused (fault_at NoRoom 8)) (bytes "01 07 AC 02 01 04 00") → ⊥
+    (Err (fault_at NoRoom 8)) (bytes "01 07 AC 02 01 04 00") → ⊥
 unfolding desk_opened numbered judged by byte
 settings_eleven_that_already_wrote w =
     let e = (sent_unique _ _ _ _ _ _ settings.write_no_room w).1 in
@@ -159,13 +158,13 @@ unfolding desk_opened numbered judged by byte
 q_for_m h = let z : ◌≡◌ {A = ℕ} 1 3 = apart (byte 9) plan.draft_smaller_set h in omega (arith, z)
 
 entries_beyond_m : Received (plan_sheet 7 300 plan.example 0) 15 (replicate 6 99) (replicate 5 99)
-    (Accepted (record { blocks = 4; time = 9; size = 4 })) (0 ∷ 0 ∷ 1 ∷ 1 ∷ 99 ∷ 99 ∷ []) (0 ∷ 1 ∷ 2 ∷ 3 ∷ 0 ∷ []) → ⊥
+    (Ok (record { blocks = 4; time = 9; size = 4 })) (0 ∷ 0 ∷ 1 ∷ 1 ∷ 99 ∷ 99 ∷ []) (0 ∷ 1 ∷ 2 ∷ 3 ∷ 0 ∷ []) → ⊥
 unfolding desk_opened numbered judged by byte
 entries_beyond_m w =
     let e = (read_unique _ _ _ _ _ _ _ _ _ _ plan.lists_filled w).2 in
     let z : ◌≡◌ {A = ℕ} 99 0 = ap (λ (l : List ℕ). get_or l 4 0) e in omega (arith, z)
 
-exact_room_refused : Sent (plan_draft 7 300 plan.plan) (replicate 15 0xEE) (Refused (fault_at NoRoom 15)) (replicate 15 0xEE) → ⊥
+exact_room_refused : Sent (plan_draft 7 300 plan.plan) (replicate 15 0xEE) (Err (fault_at NoRoom 15)) (replicate 15 0xEE) → ⊥
 unfolding desk_opened numbered judged by byte
 exact_room_refused w =
     let e = (sent_unique _ _ _ _ _ _ plan.write_exact w).1 in
@@ -192,7 +191,7 @@ made_up_size w =
 -- ---- unit
 
 module _ (after : List ℕ)
-    (w : Replied unit.ready request.example (replicate 16 0xEE) (record { answer = Length 15; unit = unit.ready }) after) where
+    (w : Replied unit.ready request.example (replicate 16 0xEE) (record { answer = Ok 15; unit = unit.ready }) after) where
   -- whatever is answered with that length, its bytes are document 01's
   the_sheet : bytes "03 07 AC 02 04 09 00 00 01 01 04 00 01 02 03 EE" ≡ after
   the_sheet = (request_unique request_example w).1
@@ -211,7 +210,7 @@ module _ (after : List ℕ)
 
 -- the loads of a request at age 3, whole
 age_forgotten : (after : List ℕ)
-    → Replied unit.ready request.aged_example (replicate 14 0xEE) (record { answer = Length 13; unit = unit.ready }) after
+    → Replied unit.ready request.aged_example (replicate 14 0xEE) (record { answer = Ok 13; unit = unit.ready }) after
     → get_or after 5 0 ≡ 8 → ⊥
 unfolding desk_opened numbered judged by byte
 age_forgotten after w h =
@@ -219,7 +218,7 @@ age_forgotten after w h =
 
 -- one block on a unit with settings of kind 5, by the sum
 larger_as_sum : (after : List ℕ)
-    → Replied unit.overlapped request_one (replicate 10 0xEE) (record { answer = Length 9; unit = unit.overlapped }) after
+    → Replied unit.overlapped request_one (replicate 10 0xEE) (record { answer = Ok 9; unit = unit.overlapped }) after
     → get_or after 5 0 ≡ 9 → ⊥
 unfolding desk_opened numbered judged by byte
 larger_as_sum after w h =
@@ -227,7 +226,7 @@ larger_as_sum after w h =
 
 -- and by the larger, on one with settings of kind 1
 sum_as_larger : (after : List ℕ)
-    → Replied unit.summed request_one (replicate 10 0xEE) (record { answer = Length 9; unit = unit.summed }) after
+    → Replied unit.summed request_one (replicate 10 0xEE) (record { answer = Ok 9; unit = unit.summed }) after
     → get_or after 5 0 ≡ 7 → ⊥
 unfolding desk_opened numbered judged by byte
 sum_as_larger after w h =
@@ -235,7 +234,7 @@ sum_as_larger after w h =
 
 -- one block on disks 0 and 2, of which disk 0 is out
 module _ (after : List ℕ)
-    (w : Replied unit.marked request_out (replicate 10 0xEE) (record { answer = Length 9; unit = unit.marked }) after) where
+    (w : Replied unit.marked request_out (replicate 10 0xEE) (record { answer = Ok 9; unit = unit.marked }) after) where
   out_sheet : bytes "03 07 AC 02 01 0A 02 01 00 EE" ≡ after
   out_sheet = (request_unique answer_out w).1
 

@@ -10,9 +10,9 @@ use Prim.Native.Nat.{ℕ}
 use mathlib.Core.Path.{◌≡◌, refl}
 use mathlib.Core.List.{List, [], ◌∷◌, ◌++◌, map}
 use lib.ListN.{drop, replicate}
+use Rattle.std.specs.Prelude.{Err}
 use Rattle.basics.specs.Lists.{All}
 use Rattle.field.specs.declared.Refusal.TheVariants.{NoRoom}
-use Rattle.field.specs.declared.Written.TheVariants.{Refused}
 use Rattle.field.specs.Refusal.{fault_at}
 use Rattle.field.specs.Send.{sheet, none, Sent}
 use Rattle.field.specs.Sheet.{note, unplaced, got, refused}
@@ -173,7 +173,7 @@ unfolding settings_opened
 overlap_load_above = refl
 
 -- one byte less than the sheet has is 11, and the buffer is as it was
-pub write_no_room : Sent (settings_draft Sum 7 300 (4 ∷ []) (0 ∷ []) (1 ∷ [])) (replicate 7 0xEE) (Refused (fault_at NoRoom 8))
+pub write_no_room : Sent (settings_draft Sum 7 300 (4 ∷ []) (0 ∷ []) (1 ∷ [])) (replicate 7 0xEE) (Err (fault_at NoRoom 8))
     (replicate 7 0xEE)
 unfolding settings_opened
 write_no_room = record { answer = refl; held = refl }

@@ -9,7 +9,7 @@ use types.Run.{OneOf}
 use Rattle.reason.specs.contracts.Reason.{the_type}
 use Rattle.reason.specs.declared.Reason.{Reason}
 use Rattle.reason.specs.declared.Reason.TheVariants.{NoCopy, Later, NotKept, Lower, Chosen}
-use Rattle.why.specs.Why.{timed}
+use Rattle.reason.specs.Reason.{timed}
 
 -- the places of all reasons but the second
 abbrev pub others : List ℕ

@@ -4,9 +4,10 @@
 use Prim.Native.Nat.{ℕ, ◌<◌}
 use mathlib.Core.Path.{◌≡◌, refl, sym, ap, ap₂, ◌∙◌}
 use mathlib.Core.List.{List}
-use Rattle.field.specs.Refusal.{note_of}
+use Rattle.std.specs.Prelude.{Result}
+use Rattle.field.specs.declared.Fault.{Fault}
 use Rattle.field.specs.Sheet.{Out, got, refused}
-use Rattle.field.proofs.Unique.{note_injective}
+use Rattle.field.proofs.Unique.{told_by_injective, not_refused}
 use Rattle.model.specs.Case.{Case}
 use Rattle.planner.specs.Asked.{Plannable}
 use Rattle.planner.proofs.Plannable.{priced, asked_plannable}
@@ -18,8 +19,6 @@ use Rattle.unit.specs.Request.{asked_of}
 use Rattle.unit.specs.Sound.{Sound}
 use Rattle.unit.specs.Unit.{tenancy_of}
 use Rattle.why.specs.declared.Reasoned.{Reasoned}
-use Rattle.why.specs.declared.Why.{Why}
-use Rattle.why.specs.declared.Why.TheVariants.{Told, Refused}
 use Rattle.why.specs.Why.{within, Explains, told_why, Explained}
 use Rattle.why.proofs.Within.{within_in}
 
@@ -34,20 +33,16 @@ one_of (got m e) b d h v w = v.2 ∙ ap (λ (r : Reason). got r 0) (reasons_uniq
 pub explains_unique : (o : Out Case) (b d : ℕ) {x y : Out Reason} → Explains (within o b d) b d x → Explains (within o b d) b d y → x ≡ y
 explains_unique o b d v w = one_of (within o b d) b d (λ m e h. (within_in o b d h).1) v w
 
-told_injective : (a b : Why) → told_why a ≡ told_why b → a ≡ b
-unfolding told_why
-told_injective (Told r) (Told s) h = cc
-told_injective (Told r) (Refused f) h = cc
-told_injective (Refused e) (Told s) h = cc
-told_injective (Refused e) (Refused f) h = let n : note_of e ≡ note_of f = cc in ap Refused (note_injective e f n)
+told_injective : (a b : Result Reason Fault) → told_why a ≡ told_why b → a ≡ b
+told_injective = told_by_injective (λ r. got r 0) (λ a b h. cc) (λ a e h. not_refused h)
 
-pub why_unique : (o : Out Case) (b d : ℕ) {x y : Why}
+pub why_unique : (o : Out Case) (b d : ℕ) {x y : Result Reason Fault}
     → Explains (within o b d) b d (told_why x) → Explains (within o b d) b d (told_why y) → x ≡ y
 why_unique o b d {x} {y} v w = told_injective x y (explains_unique o b d v w)
 
 pub explained_unique : (u : Shelf) (s : List ℕ) (b d : ℕ) (x y : Reasoned) → Explained u s b d x → Explained u s b d y → x ≡ y
 explained_unique u s b d x y v w =
-    ap₂ (λ (a : Why) (z : Shelf). record { answer = a; unit = z }) (why_unique (asked_of u s) b d v.says w.says)
+    ap₂ (λ (a : Result Reason Fault) (z : Shelf). record { answer = a; unit = z }) (why_unique (asked_of u s) b d v.says w.says)
     (v.same ∙ sym w.same)
 
 -- ---- an answer

@@ -3,5 +3,5 @@ use Rattle.std.specs.Prelude.{ℕ, ◌<◌}
 use Rattle.planner.specs.declared.Spelling.{Spelling}
 use Rattle.planner.specs.Parts.{Lent}
 
-abbrev pub Asked : Spelling → ℕ → ℕ → ℕ → Type 0
-Asked s q b d = Lent s q × (b < q) × (d < s.disks)
+abbrev pub Asked : Spelling → ℕ → ℕ → Type 0
+Asked s b d = Lent s × (b < s.blocks) × (d < s.disks)

@@ -8,67 +8,37 @@ ghost use Rattle.unit.specs.Request.{asked_of};
 ghost use Rattle.unit.specs.Sound.{Sound};
 ghost use Rattle.why.specs.Parts.{Asked};
 ghost use Rattle.why.specs.Why.{within, Explains, told_why, Explained};
-ghost use Rattle.why.specs.Why.{numbered as numbered_of};
-ghost use Rattle.why.specs.Why.{timed as timed_of};
 
 use field::{Fault, Refusal};
 use planner::Spelling;
 use reason::Reason;
-use request::Answer;
 use unit::Unit;
 
-// The reason, or the refusal.
-#[derive(Clone, Copy)]
-pub enum Why {
-    Told(Reason),
-    Refused(Fault),
-}
-
-// What the call answers, with the unit afterwards.
+// What the call answers, the reason or the refusal, with the unit afterwards.
 #[derive(Clone, Copy)]
 pub struct Reasoned {
-    pub answer: Why,
+    pub answer: Result<Reason, Fault>,
     pub unit: Unit,
 }
 
-// The reason of a block and a disk of what was asked, of Q blocks.
-fn lend(said: Spelling, q: usize, block: usize, disk: usize) -> Reason
-    requires { Asked said q block disk }
-    ensures { Reasons (case_lent said q) block disk result }
+// The reason of a block and a disk of what was asked.
+fn lend(said: Spelling, block: usize, disk: usize) -> Reason
+    requires { Asked said block disk }
+    ensures { Reasons (case_lent said) block disk result }
 {
-    let n = said.disks;
-    let copies = said.copies;
-    let costs = said.costs;
-    let starts = said.starts;
-    reason::explain(&copies[..q], &costs[..n], &starts[..n], block, disk)
+    reason::explain(said.copies(), said.costs(), said.starts(), block, disk)
 }
 
-// The reason of a block and a disk, or the refusal.
-fn answer(u: Unit, sheet: &[u8], block: u32, disk: u32) -> Why
+// The reason of a block and a disk, or the refusal. `Sound` is a premise, as `Unit` says.
+fn answer(u: Unit, sheet: &[u8], block: u32, disk: u32) -> Result<Reason, Fault>
     requires { Sound u }
     ensures { Explains (within (asked_of u sheet.now) block disk) block disk (told_why result) }
 {
-    let said = u.ask(sheet);
-    let answer = said.answer;
-    match answer {
-        Answer::Accepted(q) => {
-            let n = said.disks;
-            if q <= block as usize {
-                return Why::Refused(Fault {
-                    refusal: Refusal::BadIndex,
-                    place: 0,
-                });
-            }
-            if n <= disk as usize {
-                return Why::Refused(Fault {
-                    refusal: Refusal::BadIndex,
-                    place: 0,
-                });
-            }
-            Why::Told(lend(said, q, block as usize, disk as usize))
-        }
-        Answer::Refused(e) => Why::Refused(e),
+    let said = u.ask(sheet)?;
+    if said.blocks <= block as usize || said.disks <= disk as usize {
+        return Err(Refusal::BadIndex.at(0));
     }
+    Ok(lend(said, block as usize, disk as usize))
 }
 
 // Answers why the plan of a request reads a block from a disk, or doesn't, and hands the unit back as it was.
@@ -76,32 +46,8 @@ pub fn explain(u: Unit, sheet: &[u8], block: u32, disk: u32) -> Reasoned
     requires { Sound u }
     ensures { Explained u sheet.now block disk result }
 {
-    let said = answer(u, sheet, block, disk);
     Reasoned {
-        answer: said,
+        answer: answer(u, sheet, block, disk),
         unit: u,
-    }
-}
-
-// The number of a reason, 1 to 5.
-pub fn number_of(r: Reason) -> u32
-    ensures { result ≡ numbered_of r }
-{
-    match r {
-        Reason::NoCopy => 1,
-        Reason::Later(_) => 2,
-        Reason::NotKept => 3,
-        Reason::Lower => 4,
-        Reason::Chosen => 5,
-    }
-}
-
-// The time of a reason: the least if the block were read there, 0 but for the second.
-pub fn time_of(r: Reason) -> u32
-    ensures { result ≡ timed_of r }
-{
-    match r {
-        Reason::Later(t) => t,
-        _ => 0,
     }
 }

@@ -8,90 +8,85 @@ use std::fmt::Write;
 use std::io::{ErrorKind, Read};
 use std::{fmt, io};
 
-// What one read came to: so many bytes; none yet; the end of the input; or it failed, and standard error says why.
-#[derive(Clone, Copy)]
+// A read or a write failed, and standard error says why.
+#[derive(Clone, Copy, Debug, PartialEq, Eq)]
+pub struct Failed;
+
+// What one read came to: so many bytes; none yet; the end of the input.
+#[derive(Clone, Copy, Debug, PartialEq, Eq)]
 pub enum Input {
     Bytes(usize),
     Later,
     End,
-    Failed,
-}
-
-// What was read of an input: so many bytes, all of it or all that has room; or a read failed, and standard error says why.
-#[derive(Clone, Copy)]
-pub enum Filled {
-    Bytes(usize),
-    Failed,
 }
 
 // One read behind the bytes that are there. An interrupted read, and an input that does not wait and has nothing, is no end.
-pub fn read_behind(rt: &impl Eprint, stdin: &mut impl Read, buf: &mut [u8], have: usize) -> Input
+pub fn read_behind(
+    rt: &impl Eprint,
+    stdin: &mut impl Read,
+    buf: &mut [u8],
+    have: usize,
+) -> Result<Input, Failed>
     requires { have < length buf.old }
     ensures { Reads buf.old have result buf.new }
 {
     match stdin.read(&mut buf[have..]) {
-        Ok(0) => Input::End,
-        Ok(n) => Input::Bytes(n),
-        Err(error) => failed(rt, error),
+        Ok(0) => Ok(Input::End),
+        Ok(n) => Ok(Input::Bytes(n)),
+        Err(error) => unread(rt, error),
     }
 }
 
-// Why a read failed.
-#[tactic(auto, unfolding(crate::specs::Input::came))]
-fn failed(rt: &impl Eprint, error: io::Error) -> Input
+// What a read that failed comes to.
+fn unread(rt: &impl Eprint, error: io::Error) -> Result<Input, Failed>
     ensures { came result ≡ 0 }
 {
     match error.kind() {
-        ErrorKind::Interrupted | ErrorKind::WouldBlock => Input::Later,
+        ErrorKind::Interrupted | ErrorKind::WouldBlock => Ok(Input::Later),
         _ => {
             say(rt, "standard input", error);
-            Input::Failed
+            Err(Failed)
         }
     }
 }
 
-// Reads until the buffer is full or the input ends. A proved loop has to end, and nothing says that the input does: it counts its
-// reads down from a number that no run uses up.
-pub fn read_all(rt: &impl Eprint, stdin: &mut impl Read, buf: &mut [u8]) -> Filled
+// Reads until the buffer is full or the input ends, and answers how many bytes came. A proved loop has to end, and nothing says
+// that the input does: it makes at most so many reads as no run uses up.
+pub fn read_all(rt: &impl Eprint, stdin: &mut impl Read, buf: &mut [u8]) -> Result<usize, Failed>
     ensures { Fills buf.old result buf.new }
 {
     let mut have: usize = 0;
-    let mut reads = u64::MAX;
-    while reads > 0 {
+    for _ in 0..u64::MAX {
         if buf.len() <= have {
-            return Filled::Bytes(have);
+            return Ok(have);
         }
-        match read_behind(rt, stdin, buf, have) {
+        match read_behind(rt, stdin, buf, have)? {
             Input::Bytes(n) => have += n,
             Input::Later => {}
-            Input::End => return Filled::Bytes(have),
-            Input::Failed => return Filled::Failed,
+            Input::End => return Ok(have),
         }
-        reads -= 1;
     }
-    Filled::Failed
+    Err(Failed)
 }
 
 // Writes all of a line; where that fails, standard error says why, and some of the line may have been written.
-pub fn print(rt: &(impl Print + Eprint), line: &[u8]) -> bool {
-    match write_whole(rt, line) {
-        Ok(()) => true,
-        Err(error) => {
-            say(rt, "standard output", error);
-            false
-        }
-    }
+pub fn print(rt: &(impl Print + Eprint), line: &[u8]) -> Result<(), Failed> {
+    write_whole(rt, line).map_err(|error| {
+        say(rt, "standard output", error);
+        Failed
+    })
 }
 
-// A write that fails is not made again, not even one that a signal interrupts.
+// A write that fails is not made again, not even one that a signal interrupts, as the library's own way of writing all would.
 fn write_whole(rt: &impl Print, line: &[u8]) -> io::Result<()> {
-    let mut done: usize = 0;
-    while done < line.len() {
-        let n = rt.write_some(&line[done..])?;
+    let mut rest = line;
+    // A write takes what it takes: no count tells when the line is out.
+    while !rest.is_empty() {
+        let n = rt.write_some(rest)?;
         if n == 0 {
             return Err(io::Error::from(ErrorKind::WriteZero));
         }
-        done += n;
+        rest = &rest[n..];
     }
     Ok(())
 }
@@ -120,7 +115,7 @@ impl fmt::Display for Why {
 // What the library says of an error at most, and a good deal more.
 const WORDS_MOST: usize = 128;
 
-// Text that is kept as far as there is room.
+// Text that is kept as far as there is room: fixed memory, so that a failure can be told when no memory is left to ask for.
 #[derive(Drop)]
 struct Words {
     bytes: [u8; WORDS_MOST],

@@ -1,4 +1,4 @@
-use Prim.Native.Nat.{ℕ, ◌≤◌, ◌<◌, ◌-◌}
+use Prim.Native.Nat.{ℕ, ◌<◌}
 use mathlib.Core.Path.{◌≡◌}
 use lib.ListN.{get_or, length}
 use Rattle.basics.specs.Limits.{disks_most}
@@ -7,8 +7,5 @@ use Rattle.capacity.proofs.capacities.Given as goal
 
 abbrev pub invariant-loop-d : goal.invariant-loop-d
 invariant-loop-d l =
-    (l.d ≤ l.n) × (length l.caps ≡ disks_most)
-    × ((e : ℕ) → e < l.d → get_or l.caps e 0 ≡ capacity (get_or l.starts e 0) (get_or l.costs e 0) l.t)
-
-abbrev pub decreases-loop-d : goal.decreases-loop-d
-decreases-loop-d l = l.n - l.d
+    (length l.caps ≡ disks_most)
+    × ((d : ℕ) → d < l.d → get_or l.caps d 0 ≡ capacity (get_or l.rates.starts.now d 0) (get_or l.rates.costs.now d 0) l.t)

@@ -1,9 +1,7 @@
-use Rattle.capacity.specs.Parts.{Enough}
+use Rattle.mask.specs.Rising.{disks_left}
+use Rattle.capacity.specs.Rated.{Enough}
 use Rattle.capacity.proofs.Rooms.{Left}
 use Rattle.capacity.proofs.enough.Given as goal
 
-abbrev pub invariant-loop-rest : goal.invariant-loop-rest
-invariant-loop-rest l = Left l.n l.x l.rest × Enough l.n l.costs l.starts l.t l.x l.more l.high
-
-abbrev pub decreases-loop-rest : goal.decreases-loop-rest
-decreases-loop-rest l = l.rest
+abbrev pub invariant-loop-d : goal.invariant-loop-d
+invariant-loop-d l = Left l.n l.x (disks_left l.d-iterator) × Enough l.n l.rates l.t l.x l.more l.high

@@ -1,42 +1,18 @@
 -- `capacity::room_at` meets its contract: what is summed, with the room of the disks left, is the room of x.
-use Rattle.capacity.proofs.Rooms.{left_all, left_disk, left_less, left_next, left_room, room_none, room_most}
+use Rattle.capacity.proofs.Rooms.{left_all, left_next, rooms_all, rooms_first, rooms_end, room_most}
+use mathlib.Core.Path.{ap, ◌∙◌}
 use native.Mathlib.Omega.{arith}
+use Rattle.mask.specs.Rising.{disks_left}
 use Rattle.capacity.proofs.room_at.Goals as goal
 
-pub loop-rest-init : goal.loop-rest-init
-loop-rest-init c = (left_all c.requires.1 (omega (arith, c.ranges.x)), omega arith)
-
-pub offset_bounds-starts-d : goal.offset_bounds-starts-d
-offset_bounds-starts-d c =
-    let p = c.requires.0 in
-    let d = left_disk c.loop-rest.invariant.0 c.loop-rest-test.true c.lowest-d.ensures in
-    omega (arith, p.few)
-
-pub bounds-starts-d : goal.bounds-starts-d
-bounds-starts-d c =
-    let p = c.requires.0 in
-    let d = left_disk c.loop-rest.invariant.0 c.loop-rest-test.true c.lowest-d.ensures in
-    omega (arith, p.starts_long)
-
-pub offset_bounds-costs-d : goal.offset_bounds-costs-d
-offset_bounds-costs-d c =
-    let p = c.requires.0 in
-    let d = left_disk c.loop-rest.invariant.0 c.loop-rest-test.true c.lowest-d.ensures in
-    omega (arith, p.few)
-
-pub bounds-costs-d : goal.bounds-costs-d
-bounds-costs-d c =
-    let p = c.requires.0 in
-    let d = left_disk c.loop-rest.invariant.0 c.loop-rest-test.true c.lowest-d.ensures in
-    omega (arith, p.costs_long)
-
-pub able-requires : goal.able-requires
-able-requires c =
-    let p = c.requires.0 in
-    p.priced _ (left_disk c.loop-rest.invariant.0 c.loop-rest-test.true c.lowest-d.ensures)
-
-pub overflow_cast-total : goal.overflow_cast-total
-overflow_cast-total c = omega (arith, c.able.type_inv)
+pub loop-d-init : goal.loop-d-init
+loop-d-init c =
+    let a = c.args in
+    let e = ap disks_left c.into_iter-d-iterator.ensures.into_iter_gives ∙ c.disks-d-items.ensures in
+    rw e (
+      left_all c.requires.1,
+      omega (arith, rooms_all a.n a.rates.costs.now a.rates.starts.now a.x a.t c.requires.0.few (omega (arith, c.ranges.x)) c.requires.1),
+    )
 
 pub overflow_add-total : goal.overflow_add-total
 overflow_add-total c =
@@ -44,36 +20,21 @@ overflow_add-total c =
     omega (
       arith,
       c.able.type_inv,
-      c.loop-rest.invariant.1,
-      room_most a.n a.costs.now a.starts.now a.x a.t (omega (arith, c.ranges.t)),
+      c.loop-d.invariant.1,
+      room_most a.n a.rates.costs.now a.rates.starts.now a.x a.t (omega (arith, c.ranges.t)),
       c.requires.0.few,
     )
 
-pub take-rest-requires : goal.take-rest-requires
-take-rest-requires c =
-    let d = left_disk c.loop-rest.invariant.0 c.loop-rest-test.true c.lowest-d.ensures in
-    omega (arith, c.requires.0.few)
-
-pub loop-rest-smaller : goal.loop-rest-smaller
-loop-rest-smaller c =
-    left_less c.loop-rest.invariant.0 c.loop-rest-test.true c.lowest-d.ensures c.take-rest.type_inv
-    c.take-rest.ensures
-
-pub loop-rest-preserved : goal.loop-rest-preserved
-loop-rest-preserved c =
-    let i = c.loop-rest.invariant in
+pub loop-d-preserved : goal.loop-d-preserved
+loop-d-preserved c =
+    let i = c.loop-d.invariant in
     let a = c.args in
-    let o = c.lowest-d.ensures in (
-      left_next i.0 c.loop-rest-test.true o c.take-rest.type_inv c.take-rest.ensures,
-      omega (
-        arith,
-        i.1,
-        c.able.ensures,
-        left_room i.0 c.loop-rest-test.true o c.take-rest.type_inv c.take-rest.ensures a.costs.now a.starts.now a.t,
-      ),
+    let o = c.in-Some.ensures.steps in (
+      (left_next c.requires.1 i.0 o).1,
+      omega (arith, i.1, c.able.ensures, rooms_first a.rates.costs.now a.rates.starts.now a.t o),
     )
 
 pub returns : goal.returns
 returns c =
     let a = c.args in
-    omega (arith, c.loop-rest.invariant.1, room_none a.n a.costs.now a.starts.now a.t c.loop-rest-test.false)
+    omega (arith, c.loop-d.invariant.1, rooms_end a.rates.costs.now a.rates.starts.now a.t c.in-None.ensures.steps.0)

@@ -1,12 +1,11 @@
 use Prim.Native.Nat.{◌+◌}
 use mathlib.Core.Path.{◌≡◌}
-use Rattle.capacity.specs.Capacities.{room_of}
-use Rattle.capacity.proofs.Rooms.{Left}
+use Rattle.mask.specs.Rising.{disks_left}
+use Rattle.capacity.specs.Rated.{room_of}
+use Rattle.capacity.proofs.Rooms.{Left, rooms}
 use Rattle.capacity.proofs.room_at.Given as goal
 
-abbrev pub invariant-loop-rest : goal.invariant-loop-rest
-invariant-loop-rest l =
-    Left l.n l.x l.rest × (l.total + room_of l.n l.costs l.starts l.rest l.t ≡ room_of l.n l.costs l.starts l.x l.t)
-
-abbrev pub decreases-loop-rest : goal.decreases-loop-rest
-decreases-loop-rest l = l.rest
+abbrev pub invariant-loop-d : goal.invariant-loop-d
+invariant-loop-d l =
+    Left l.n l.x (disks_left l.d-iterator)
+    × (l.total + rooms l.rates.costs.now l.rates.starts.now l.t (disks_left l.d-iterator) ≡ room_of l.n l.rates l.x l.t)

@@ -1,28 +1,12 @@
--- `bench`: unit and tenancy; the first refusal stands.
-use Rattle.console.proofs.Benching.{input_hires, input_no_tenancy, input_no_unit, tells_refused, tells_same}
-use Rattle.field.proofs.Readers.{told_got, told_refused}
+-- `bench`: the unit that was made ready is asked; the first refusal stands.
+use Rattle.console.proofs.Benching.{tells_asked, tells_refused}
 use Rattle.console.proofs.bench.Goals as goal
 
-pub returns-in-Got-number : goal.returns-in-Got-number
-returns-in-Got-number c =
-    tells_same
-    (input_hires _ _ _ _ _
-    (told_got c.number.ensures
-    c.in-Got.is)
-    (told_got c.number-in-Got.ensures c.in-Got-number.is))
-    c.hire.ensures
+pub ask-requires : goal.ask-requires
+ask-requires c = c.in-Ok.ensures.2
 
-pub returns-in-Refused-number : goal.returns-in-Refused-number
-returns-in-Refused-number c =
-    tells_refused c.in-Refused-number.e
-    (input_no_tenancy _ _ _ _
-    (told_got c.number.ensures
-    c.in-Got.is)
-    (told_refused c.number-in-Got.ensures c.in-Refused-number.is))
-    c.refuse.ensures
+pub returns-in-Ok : goal.returns-in-Ok
+returns-in-Ok c = tells_asked _ c.in-Ok.ensures (rw c.of.ensures at c.ask.ensures)
 
-pub returns-in-Refused : goal.returns-in-Refused
-returns-in-Refused c = tells_refused c.in-Refused.e
-    (input_no_unit _ _ (told_refused c.number.ensures
-    c.in-Refused.is))
-    c.refuse-in-Refused.ensures
+pub returns-in-Err : goal.returns-in-Err
+returns-in-Err c = tells_refused c.in-Err.e c.in-Err.ensures c.refuse.ensures

@@ -1,9 +1,9 @@
--- `tenancy_of` meets its contract, by the two cases of `tenancy_with`.
+-- `tenancy_of`: the two cases of `tenancy_with`.
 use Rattle.desk.proofs.Writing.{tenancy_broken, tenancy_whole}
 use Rattle.desk.proofs.tenancy_of.Goals as goal
 
 pub returns-then-copies-gt0 : goal.returns-then-copies-gt0
 returns-then-copies-gt0 c = tenancy_broken _ _ c.if-copies-gt0.true
 
-pub returns : goal.returns
-returns c = tenancy_whole _ _ c.if-copies-gt0.false
+pub returns-else-copies-gt0 : goal.returns-else-copies-gt0
+returns-else-copies-gt0 c = tenancy_whole _ _ c.if-copies-gt0.false

@@ -11,7 +11,7 @@ load-requires c = (c.requires.blocks, refl, replicate_at {A = ℕ} 0 blocks_most
 
 pub schedule-requires : goal.schedule-requires
 schedule-requires c =
-    spelling _ c.requires c.load.ensures
+    spelling _ c.requires c.load.ensures c.new.ensures
 
 pub returns : goal.returns
 returns c =

@@ -11,7 +11,7 @@ load-requires c = (c.requires.spellable.blocks, refl, replicate_at {A = ℕ} 0 b
 
 pub solve-requires : goal.solve-requires
 solve-requires c =
-    solving _ c.requires c.load.ensures
+    solving _ c.requires c.load.ensures c.new.ensures
 
 pub shape_of-disks : goal.shape_of-disks
 shape_of-disks c = (c.solve.ensures c.args.copies.now refl c.load.ensures).disks_long

@@ -7,7 +7,7 @@ clear_all-requires c = c.requires.empty
 
 pub least-requires : goal.least-requires
 least-requires c =
-    blank c.requires c.clear_all.ensures
+    let e = c.clear_all.ensures in rw e.1 (blank c.requires e.0)
 
 pub returns : goal.returns
 returns c = c.least.ensures

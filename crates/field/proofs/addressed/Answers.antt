@@ -1,17 +1,15 @@
 -- The unit, and the tenancy at the place where it ended; the first refusal stands.
-use mathlib.Core.Path.{sym, ◌∙◌}
-use Rattle.field.specs.Told.{told}
+use mathlib.Core.Path.{sym, ap, ◌∙◌}
+use Rattle.basics.proofs.Question.{passed_on}
 use Rattle.field.specs.Field.{addressed}
+use Rattle.field.specs.Told.{told}
 use Rattle.field.proofs.Sheet.{then, halts}
-use Rattle.field.proofs.Readers.{told_got, told_refused}
 use Rattle.field.proofs.addressed.Goals as goal
 
-pub returns-in-Got : goal.returns-in-Got
+pub returns-in_err-next : goal.returns-in_err-next
 unfolding addressed
-returns-in-Got c =
-    c.tenancy.ensures ∙ sym
-    (then _ _ _ _ (told_got c.exactly.ensures c.in-Got.is))
+returns-in_err-next c = ap told (passed_on c.from_residual.ensures) ∙ sym (halts _ _ _ _ (sym c.in_err-next.ensures))
 
-pub returns-in-Refused : goal.returns-in-Refused
-unfolding addressed told
-returns-in-Refused c = sym (halts _ _ _ _ (told_refused c.exactly.ensures c.in-Refused.is))
+pub returns : goal.returns
+unfolding addressed
+returns c = c.tenancy.ensures ∙ sym (then _ _ _ _ (sym c.in_ok-next.ensures))

@@ -1,26 +1,22 @@
 -- The kind, then unit and tenancy at the place where it ended; the first refusal stands.
-use mathlib.Core.Path.{sym, ◌∙◌}
-use Rattle.field.specs.Told.{told}
-use Rattle.field.specs.Sheet.{pure}
+use mathlib.Core.Path.{sym, ap, ◌∙◌}
+use Rattle.basics.proofs.Question.{passed_on}
 use Rattle.field.specs.Field.{opening}
+use Rattle.field.specs.Sheet.{pure}
+use Rattle.field.specs.Told.{told}
 use Rattle.field.proofs.Sheet.{next, then, stops, halts}
-use Rattle.field.proofs.Readers.{told_got, told_refused}
 use Rattle.field.proofs.opening.Goals as goal
 
-pub returns-in-Got-addressed : goal.returns-in-Got-addressed
-unfolding opening told pure
-returns-in-Got-addressed c =
-    let of_kind = told_got c.kind.ensures
-    c.in-Got.is in
-    sym (next _ _ _ _ of_kind ∙ then _ _ _ _ (told_got c.addressed.ensures c.in-Got-addressed.is))
+pub returns-in_err-k : goal.returns-in_err-k
+unfolding opening
+returns-in_err-k c = ap told (passed_on c.from_residual.ensures) ∙ sym (stops _ _ _ _ (sym c.in_err-k.ensures))
 
-pub returns-in-Refused-addressed : goal.returns-in-Refused-addressed
-unfolding opening told
-returns-in-Refused-addressed c =
-    let of_kind = told_got c.kind.ensures
-    c.in-Got.is in
-    sym (next _ _ _ _ of_kind ∙ halts _ _ _ _ (told_refused c.addressed.ensures c.in-Refused-addressed.is))
+pub returns-in_err-next : goal.returns-in_err-next
+unfolding opening
+returns-in_err-next c =
+    ap told (passed_on c.from_residual-in_err-next.ensures)
+    ∙ sym (next _ _ _ _ (sym c.in_ok-k.ensures) ∙ halts _ _ _ _ (sym c.in_err-next.ensures))
 
-pub returns-in-Refused : goal.returns-in-Refused
-unfolding opening told
-returns-in-Refused c = sym (stops _ _ _ _ (told_refused c.kind.ensures c.in-Refused.is))
+pub returns : goal.returns
+unfolding opening pure
+returns c = sym (next _ _ _ _ (sym c.in_ok-k.ensures) ∙ then _ _ _ _ (sym c.in_ok-next.ensures))

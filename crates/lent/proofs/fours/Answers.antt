@@ -1,17 +1,7 @@
--- `fours`: the loop that gathers numbers, at four bytes each.
-use native.Mathlib.Omega.{arith}
-use Prim.Native.Nat.{ℕ}
-use lib.ListN.{length-replicate}
-use Rattle.lent.proofs.Filling.{gathered_start, gathered_step, gathered_done}
-use mathlib.Core.Path.{refl}
+-- `fours`: the numbers of 4 bytes each.
+use mathlib.Core.Path.{sym}
+use Rattle.lent.proofs.Filling.{parts_numbers}
 use Rattle.lent.proofs.fours.Goals as goal
 
-pub loop-i-init : goal.loop-i-init
-loop-i-init c = gathered_start refl
-
-pub loop-i-preserved : goal.loop-i-preserved
-loop-i-preserved c = gathered_step c.loop-i.invariant c.loop-i-test.true
-    (omega (arith, c.requires, length-replicate {A = ℕ} 64 0)) c.four_at.ensures
-
 pub returns : goal.returns
-returns c = gathered_done c.loop-i.invariant c.loop-i-test.false
+returns c = rw (sym (parts_numbers 4 c.args.bytes.now)) c.gather.ensures

@@ -1,16 +1,11 @@
--- `pack_written`: a length of 32 bits, moved up by 32, fits; so does a place.
-use native.Mathlib.Omega.{arith}
-use Rattle.lent.proofs.Packed.{short_length, near_refusal, packed_length, packed_refusal}
+-- `pack_written`: a length of 32 bits, moved up by 32, or what `refuse` answers.
+use Rattle.lent.specs.Packed.{writer_answer, pack_written}
 use Rattle.lent.proofs.pack_written.Goals as goal
 
-pub overflow_mul-result : goal.overflow_mul-result
-overflow_mul-result c = omega (arith, short_length c.requires c.in-Length.is)
+pub returns-in-Ok : goal.returns-in-Ok
+unfolding writer_answer pack_written
+returns-in-Ok c = rw c.in-Ok.is
 
-pub refuse-requires : goal.refuse-requires
-refuse-requires c = near_refusal c.requires c.in-Refused.is
-
-pub returns-in-Length : goal.returns-in-Length
-returns-in-Length c = packed_length c.in-Length.is
-
-pub returns-in-Refused : goal.returns-in-Refused
-returns-in-Refused c = packed_refusal c.in-Refused.is c.refuse.ensures
+pub returns-in-Err : goal.returns-in-Err
+unfolding writer_answer
+returns-in-Err c = rw c.in-Err.is c.refuse.ensures

@@ -1,14 +1,20 @@
 -- `plan_line`: counts above 1,024 give no line; else the fields and then the lists.
 use native.Mathlib.Omega.{arith}
-use Rattle.line.proofs.Lines.{many_disks, many_blocks, plan_printed}
+use borrow.Author.Rules.{rules}
+use mathlib.Core.Path.{refl}
+use Rattle.line.specs.Line.{feed}
+use Rattle.plan.specs.Plan.{plan_of}
+use Rattle.line.proofs.Adding.{writes_line}
+use Rattle.line.proofs.Lines.{uncounted, plan_bound, plan_written}
 use Rattle.line.proofs.plan_line.Goals as goal
 
 pub returns-then-disks-gt-BLOCKS : goal.returns-then-disks-gt-BLOCKS
-returns-then-disks-gt-BLOCKS c = many_disks _ _ _ _ c.if-disks-gt-BLOCKS.true
-
-pub returns-then-short-gt-BLOCKS : goal.returns-then-short-gt-BLOCKS
-returns-then-short-gt-BLOCKS c = many_blocks _ _ _ _ c.if-short-gt-BLOCKS.true
+returns-then-disks-gt-BLOCKS c = uncounted _ _ _ _ c.then-disks-gt-BLOCKS.either
 
 pub returns : goal.returns
-returns c = plan_printed _ _ _ _ c.if-disks-gt-BLOCKS.false c.if-short-gt-BLOCKS.false
-    (omega arith) c.put_head-p.ensures c.put_lists.ensures
+unfolding feed
+returns c =
+    let k = c.if-disks-gt-BLOCKS.false in
+    let l = c.if-short-gt-BLOCKS.false in
+    writes_line (plan_written _ _ _ k l c.heading.ensures c.barred.ensures c.barred-2.ensures c.byte.ensures) refl
+    (omega (arith, plan_bound c.args.unit c.args.tenancy (plan_of c.args.time c.args.disks.now c.args.short.now) k l)) (search rules)

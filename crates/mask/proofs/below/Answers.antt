@@ -1,16 +1,12 @@
 -- `below` is a power of two less one, which has the disks under its exponent.
-use mathlib.Core.Path.{sym, ap, subst, ◌∙◌}
-use Prim.Native.Nat.{ℕ, ◌-◌, ◌≤◌}
+use mathlib.Core.Path.{ap, ◌∙◌}
+use Prim.Native.Nat.{ℕ, ◌-◌}
 use native.Mathlib.Omega.{arith}
 use lib.Dec.{ltb}
-use lib.Pow.{pow_pos}
 use Rattle.basics.specs.Limits.{disks_most}
 use Rattle.mask.specs.Has.{has}
 use Rattle.mask.proofs.Bits.{shl_one, has_ones}
 use Rattle.mask.proofs.below.Goals as goal
-
-pub overflow_sub-result : goal.overflow_sub-result
-overflow_sub-result c = subst (λ (x : ℕ). 1 ≤ x) (sym (shl_one disks_most c.args.n c.if-n-lt-DISKS.true)) (pow_pos c.args.n)
 
 pub returns-then-n-lt-DISKS : goal.returns-then-n-lt-DISKS
 returns-then-n-lt-DISKS c = record {

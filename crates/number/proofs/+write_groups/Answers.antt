@@ -9,13 +9,13 @@ returns-then-out-eq0 t c = wrote_none _ _ (omega (arith, width_bounds c.args.v))
 pub returns-then-v-lt128 : goal.returns-then-v-lt128
 returns-then-v-lt128 t c = wrote_one _ _ c.if-v-lt128.true (omega arith)
 
-pub returns-then-n-eq0 : goal.returns-then-n-eq0
-returns-then-n-eq0 t c = wrote_rest_none _ _ _ _ (omega arith) (omega (arith, c.ranges.v))
-    (omega arith) c.write_groups-n.ensures c.if-n-eq0.true
+pub returns-in_err-n : goal.returns-in_err-n
+returns-in_err-n t c = rw c.from_residual.ensures (wrote_rest_none _ _ _ _ (omega arith) (omega (arith, c.ranges.v))
+    (omega arith) c.write_groups.ensures c.in_err-n.was)
 
 pub overflow_add-result : goal.overflow_add-result
-overflow_add-result t c = omega (arith, wrote_small c.write_groups-n.ensures)
+overflow_add-result t c = omega (arith, wrote_small c.write_groups.ensures c.in_ok-n.was)
 
 pub returns : goal.returns
 returns t c = wrote_rest _ _ _ _ (omega arith) (omega (arith, c.ranges.v))
-    (omega arith) c.write_groups-n.ensures c.if-n-eq0.false
+    (omega arith) c.write_groups.ensures c.in_ok-n.was

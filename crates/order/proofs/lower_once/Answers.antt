@@ -4,37 +4,25 @@ use Rattle.order.proofs.Lowering.{disk, trying, asked_lowered, asked_stayed}
 use native.Mathlib.Omega.{arith}
 use Rattle.order.proofs.lower_once.Goals as goal
 
-pub overflow_cast-o : goal.overflow_cast-o
-overflow_cast-o c = let p = c.requires in omega (arith, disk p.0 p.1)
-
 pub put-freed-requires : goal.put-freed-requires
 put-freed-requires c = let p = c.requires in omega (arith, disk p.0 p.1)
-
-pub offset_bounds-dead-o : goal.offset_bounds-dead-o
-offset_bounds-dead-o c = let p = c.requires in omega (arith, disk p.0 p.1)
 
 pub bounds-dead-o : goal.bounds-dead-o
 bounds-dead-o c = let p = c.requires in omega (arith, disk p.0 p.1)
 
-pub try_lower-hit-requires : goal.try_lower-hit-requires
-try_lower-hit-requires c =
+pub try_lower-requires : goal.try_lower-requires
+try_lower-requires c =
     let p = c.requires in
     trying p.0 p.1 p.2 c.put-freed.result c.put-freed.ensures
 
 pub reopen-requires : goal.reopen-requires
 unfolding Tried
-reopen-requires c =
-    let w = rw c.in-Free.is at c.try_lower-hit.ensures in
-    (c.requires.0.bound.placed.disks, w.opened)
+reopen-requires c = (c.requires.0.bound.placed.disks, c.in-Free.ensures.opened)
 
 pub returns-in-Free : goal.returns-in-Free
 unfolding Tried
-returns-in-Free c =
-    let p = c.requires in
-    asked_lowered p.0 p.1 p.2 c.reopen.result (rw c.in-Free.is at c.try_lower-hit.ensures) c.reopen.ensures
+returns-in-Free c = let p = c.requires in asked_lowered p.0 p.1 p.2 c.reopen.result c.in-Free.ensures c.reopen.ensures
 
 pub returns-in-Stuck : goal.returns-in-Stuck
 unfolding Tried
-returns-in-Stuck c =
-    let p = c.requires in
-    asked_stayed p.0 p.1 p.2 (rw c.in-Stuck.is at c.try_lower-hit.ensures) c.spread.ensures
+returns-in-Stuck c = let p = c.requires in asked_stayed p.0 p.1 p.2 c.in-Stuck.ensures c.spread.ensures

@@ -33,10 +33,6 @@ loop-lower-preserved c =
     let e = c.lower_once-free.ensures in
     (l.invariant.0 ∙ sym e.copies, e.sorting, c.lower_copies-lower-in-loop-lower.ensures)
 
-pub overflow_cast-seats : goal.overflow_cast-seats
-overflow_cast-seats c =
-    omega (arith, disk c.loop-lower.invariant.1 c.requires.1)
-
 pub only-requires : goal.only-requires
 only-requires c =
     disk c.loop-lower.invariant.1 c.requires.1

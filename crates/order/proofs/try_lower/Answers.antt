@@ -12,11 +12,6 @@ pub improve-hit-requires : goal.improve-hit-requires
 improve-hit-requires c =
     try_seeking c.requires c.shift-o.ensures
 
-pub offset_bounds-cut-k-3 : goal.offset_bounds-cut-k-3
-offset_bounds-cut-k-3 c =
-    let p = c.requires in
-    omega (arith, p.less, p.bound.placed.blocks)
-
 pub bounds-cut-k-3 : goal.bounds-cut-k-3
 bounds-cut-k-3 c =
     let p = c.requires in
@@ -24,18 +19,12 @@ bounds-cut-k-3 c =
 
 pub shift-requires : goal.shift-requires
 unfolding Improved
-shift-requires c =
-    back_shifting c.requires c.shift-o.ensures
-    (rw c.in-Stuck.is at c.improve-hit.ensures)
-
-pub returns-in-Free : goal.returns-in-Free
-unfolding Improved Tried
-returns-in-Free c =
-    lowered c.requires c.shift-o.ensures
-    (rw c.in-Free.is at c.improve-hit.ensures)
+shift-requires c = back_shifting c.requires c.shift-o.ensures c.in-Stuck.ensures
 
 pub returns-in-Stuck : goal.returns-in-Stuck
 unfolding Improved Tried
-returns-in-Stuck c =
-    stayed c.requires c.shift-o.ensures
-    (rw c.in-Stuck.is at c.improve-hit.ensures) c.shift.ensures
+returns-in-Stuck c = rw c.in-Stuck.is (stayed c.requires c.shift-o.ensures c.in-Stuck.ensures c.shift.ensures)
+
+pub returns-in_default : goal.returns-in_default
+unfolding Improved Tried
+returns-in_default c = rw c.in_default.is (lowered c.requires c.shift-o.ensures c.in_default.ensures)

@@ -1,50 +1,35 @@
 -- `lists`: the disks, the size and the short set with the end, each at the place where the one before ended.
-use Rattle.plan.proofs.Reading.{bounds_size, lists_disks, lists_size, lists_short, lists_done}
-use Rattle.plan.specs.Parts.{Checked}
-use Rattle.field.proofs.Values.{between_range}
-use Rattle.field.proofs.Readers.{told_got, told_refused}
-use Rattle.field.specs.Told.{told}
+use mathlib.Core.Path.{sym}
+use Rattle.basics.proofs.Question.{passed_on}
 use Rattle.number.specs.Bytes.{Bytes}
-use mathlib.Core.Path.{sym, ap, ◌∙◌}
+use Rattle.field.proofs.Values.{between_range}
+use Rattle.plan.proofs.Reading.{bounds_size, checked_refused, lists_disks, lists_size, lists_short, lists_end, lists_done}
 use Rattle.plan.proofs.lists.Goals as goal
 
-pub short_last-requires : goal.short_last-requires
+pub returns-in_err-p : goal.returns-in_err-p
+returns-in_err-p c = checked_refused _ _ (passed_on c.from_residual.ensures) (lists_disks _ _ _ _ c.in_err-p.ensures)
+
+pub returns-in_err-size : goal.returns-in_err-size
+returns-in_err-size c =
+    checked_refused _ _ (passed_on c.from_residual-in_err-size.ensures)
+    (lists_size _ _ _ _ c.in_ok-p.ensures (bounds_size _ _ _ _ c.if_any.ensures c.in_err-size.ensures))
+
+pub past_short-requires : goal.past_short-requires
 unfolding Bytes
-short_last-requires c = (
-  (between_range _ _ 6 6 _ _ (told_got c.inside.ensures c.in-Got-inside.is)).1,
-  c.requires,
-)
+past_short-requires c = ((between_range _ _ 6 6 _ _ (sym c.in_ok-size.ensures)).1, c.requires)
 
-pub returns-in-Got-short_last : goal.returns-in-Got-short_last
-unfolding told
-returns-in-Got-short_last c =
-    lists_done _ _ _ _
-    c.past_disks.ensures
-    c.in-Got.is
-    (bounds_size _ _ _ _ c.if_any.ensures
-    (told_got c.inside.ensures c.in-Got-inside.is))
-    c.requires
-    (sym c.short_last.ensures ∙ ap told c.in-Got-short_last.is)
+pub returns-in_err-end : goal.returns-in_err-end
+returns-in_err-end c =
+    checked_refused _ _ (passed_on c.from_residual-in_err-end.ensures)
+    (lists_short _ _ _ _ c.in_ok-p.ensures (bounds_size _ _ _ _ c.if_any.ensures c.in_ok-size.ensures) c.in_err-end.ensures)
 
-pub returns-in-Refused-short_last : goal.returns-in-Refused-short_last
-unfolding told Checked
-returns-in-Refused-short_last c =
-    lists_short _ _ _ _
-    c.past_disks.ensures
-    c.in-Got.is
-    (bounds_size _ _ _ _ c.if_any.ensures
-    (told_got c.inside.ensures
-    c.in-Got-inside.is)) (sym c.short_last.ensures
-    ∙ ap told c.in-Refused-short_last.is)
+pub returns-in_err-end-2 : goal.returns-in_err-end-2
+returns-in_err-end-2 c =
+    checked_refused _ _ (passed_on c.from_residual-in_err-end-2.ensures)
+    (lists_end _ _ _ _ c.in_ok-p.ensures (bounds_size _ _ _ _ c.if_any.ensures c.in_ok-size.ensures) c.in_ok-end.ensures
+    c.in_err-end-2.ensures)
 
-pub returns-in-Refused-inside : goal.returns-in-Refused-inside
-unfolding Checked
-returns-in-Refused-inside c =
-    lists_size _ _ _ _ c.past_disks.ensures
-    c.in-Got.is
-    (bounds_size _ _ _ _ c.if_any.ensures
-    (told_refused c.inside.ensures c.in-Refused-inside.is))
-
-pub returns-in-Refused : goal.returns-in-Refused
-unfolding Checked
-returns-in-Refused c = lists_disks _ _ _ _ c.past_disks.ensures c.in-Refused.is
+pub returns : goal.returns
+returns c =
+    lists_done _ _ _ _ c.in_ok-p.ensures (bounds_size _ _ _ _ c.if_any.ensures c.in_ok-size.ensures) c.in_ok-end.ensures
+    c.requires c.in_ok-end-2.ensures

@@ -1,34 +1,34 @@
--- `read_disks`. The loop's invariant: the entries read so far stand in the list, and the sheet from here on gives the rest (`Filling`).
+-- `read_disks`. Each disk stands in the list at the place where the one before it ended.
 use native.Mathlib.Omega.{arith}
-use Rattle.number.specs.Bytes.{Bytes}
 use Prim.Native.Nat.{◌-◌}
-use Rattle.field.proofs.Readers.{told_got, told_refused}
-use Rattle.field.proofs.Values.{between_range}
-use Rattle.field.proofs.Lists.{times_start, times_step, times_stop, times_done}
-use Rattle.plan.proofs.Reading.{filling_start, filling_step, filling_stop, filling_done}
+use mathlib.Core.Path.{sym, ◌∙◌}
+use lib.Seq.{length-take-le}
 use Rattle.basics.specs.Limits.{disks_most}
+use Rattle.basics.proofs.Question.{passed_on}
+use Rattle.number.specs.Bytes.{Bytes}
+use Rattle.field.proofs.Lists.{times_start, times_step, times_stop, times_done}
+use Rattle.field.proofs.Values.{between_range}
+use Rattle.plan.proofs.Reading.{filled_more, filled_stop, filled_all}
 use Rattle.plan.proofs.read_disks.Goals as goal
 
-pub loop-i-init : goal.loop-i-init
-loop-i-init c = (filling_start _ (times_start _ _ _ _), omega arith)
+pub loop-x-init : goal.loop-x-init
+loop-x-init c = times_start _ _ _ _
 
-pub overflow_cast-out : goal.overflow_cast-out
+pub returns-in_err-disk : goal.returns-in_err-disk
+returns-in_err-disk c =
+    filled_stop _ _ _ c.loop-x.invariant _ _ (passed_on c.from_residual.ensures)
+    (times_stop _ _ _ _ _ _ (omega (arith, length-take-le c.args.q c.args.out.now c.requires)) (sym c.in_err-disk.ensures))
+
+pub overflow_cast-x : goal.overflow_cast-x
 unfolding Bytes
-overflow_cast-out c = omega (
-  arith,
-  between_range 0 (disks_most - 1) 16 16 _ _ (told_got c.inside.ensures c.in-Got.is),
-)
+overflow_cast-x c = omega (arith, between_range 0 (disks_most - 1) 16 16 _ _ (sym c.in_ok-disk.ensures))
 
-pub returns-in-Refused : goal.returns-in-Refused
-returns-in-Refused c = filling_stop c.loop-i.invariant.0 _
-    (times_stop _ _ _ _ _ _ (omega arith) (told_refused c.inside.ensures c.in-Refused.is))
-
-pub loop-i-preserved : goal.loop-i-preserved
-loop-i-preserved c = (
-  filling_step c.loop-i.invariant.0 _ (omega arith)
-      (times_step _ _ _ _ _ _ (omega arith) (told_got c.inside.ensures c.in-Got.is)),
-  omega arith,
-)
+pub loop-x-preserved : goal.loop-x-preserved
+loop-x-preserved c =
+    filled_more _ _ _ c.loop-x.invariant _ _ (omega arith)
+    (times_step _ _ _ _ _ _ (omega (arith, length-take-le c.args.q c.args.out.now c.requires)) (sym c.in_ok-disk.ensures))
 
 pub returns : goal.returns
-returns c = filling_done c.loop-i.invariant.0 _ (omega arith) (times_done _ _ _ _ _ _ (omega arith))
+returns c =
+    let l = length-take-le c.args.q c.args.out.now c.requires in
+    filled_all _ _ _ c.loop-x.invariant _ _ _ (c.loop-x.auto.x-items ∙ l) (omega (arith, l)) (times_done _ _ _ _ _ _ (omega (arith, l)))

@@ -1,11 +1,11 @@
-use Prim.Native.Nat.{◌-◌, ◌≤◌}
+use mathlib.Core.Path.{◌≡◌}
+use Prim.Native.Nat.{◌-◌}
+use lib.ListN.{take}
 use Rattle.field.specs.Sheet.{times}
-use Rattle.plan.proofs.Reading.{Filling}
+use Rattle.field.proofs.Lists.{prefix}
 use Rattle.plan.specs.Plan.{disk}
 use Rattle.plan.proofs.read_disks.Given as goal
 
-abbrev pub invariant-loop-i : goal.invariant-loop-i
-invariant-loop-i l = Filling (times l.q disk l.s l.at) (times (l.q - l.i) disk l.s l.p) l.initial.out l.out l.i × (l.i ≤ l.q)
-
-abbrev pub decreases-loop-i : goal.decreases-loop-i
-decreases-loop-i l = l.q - l.i
+-- the disks read so far stand in the list, and the sheet from here on gives the rest
+abbrev pub invariant-loop-x : goal.invariant-loop-x
+invariant-loop-x l = times l.q disk l.s l.at ≡ prefix (take l.x-index l.x-items) (times (l.q - l.x-index) disk l.s l.p)

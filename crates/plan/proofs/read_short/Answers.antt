@@ -1,33 +1,39 @@
--- `read_short`. The loop's invariant is that of `read_disks`, with the first number that rises.
+-- `read_short`. Each block stands in the list at the place where the one before it ended, and is above it.
 use native.Mathlib.Omega.{arith}
+use mathlib.Core.Path.{sym, ◌∙◌}
+use lib.Seq.{length-take-le}
+use Rattle.basics.proofs.Question.{passed_on}
 use Rattle.number.specs.Bytes.{Bytes}
-use Rattle.field.proofs.Readers.{told_got, told_refused}
-use Rattle.field.proofs.Values.{between_range}
 use Rattle.field.proofs.Lists.{ascending_start, ascending_step, ascending_stop, ascending_done}
-use Rattle.plan.proofs.Reading.{filling_start, filling_step, filling_stop, filling_done}
+use Rattle.field.proofs.Values.{between_range}
+use Rattle.plan.proofs.Reading.{filled_more, filled_stop, filled_all}
 use Rattle.plan.proofs.read_short.Goals as goal
 
-pub loop-i-init : goal.loop-i-init
-loop-i-init c = (filling_start _ (ascending_start _ _ _ _ _), omega arith)
+pub loop-x-init : goal.loop-x-init
+loop-x-init c = ascending_start _ _ _ _ _
 
-pub overflow_cast-out : goal.overflow_cast-out
+pub returns-in_err-block : goal.returns-in_err-block
+returns-in_err-block c =
+    rw (sym c.saturating_sub-last.ensures)
+    (filled_stop _ _ _ c.loop-x.invariant _ _ (passed_on c.from_residual.ensures)
+    (ascending_stop _ _ _ _ _ _ _ (omega (arith, length-take-le c.args.m c.args.out.now c.requires.0)) (sym c.in_err-block.ensures)))
+
+pub overflow_cast-x : goal.overflow_cast-x
 unfolding Bytes
-overflow_cast-out c = omega (arith, between_range _ _ 8 16 _ _ (told_got c.rising.ensures c.in-Got.is))
+overflow_cast-x c = omega (arith, between_range _ _ 8 16 _ _ (sym c.in_ok-block.ensures))
 
 pub overflow_add-floor : goal.overflow_add-floor
 unfolding Bytes
-overflow_add-floor c = omega (arith, between_range _ _ 8 16 _ _ (told_got c.rising.ensures c.in-Got.is))
+overflow_add-floor c = omega (arith, between_range _ _ 8 16 _ _ (sym c.in_ok-block.ensures))
 
-pub returns-in-Refused : goal.returns-in-Refused
-returns-in-Refused c = filling_stop c.loop-i.invariant.0 _
-    (ascending_stop _ _ _ _ _ _ _ (omega arith) (told_refused c.rising.ensures c.in-Refused.is))
-
-pub loop-i-preserved : goal.loop-i-preserved
-loop-i-preserved c = (
-  filling_step c.loop-i.invariant.0 _ (omega arith)
-      (ascending_step _ _ _ _ _ _ _ (omega arith) (told_got c.rising.ensures c.in-Got.is)),
-  omega arith,
-)
+pub loop-x-preserved : goal.loop-x-preserved
+loop-x-preserved c =
+    filled_more _ _ _ c.loop-x.invariant _ _ (omega arith)
+    (ascending_step _ _ _ _ _ _ _ (omega (arith, length-take-le c.args.m c.args.out.now c.requires.0)) (sym c.in_ok-block.ensures))
 
 pub returns : goal.returns
-returns c = filling_done c.loop-i.invariant.0 _ (omega arith) (ascending_done _ _ _ _ _ _ _ (omega arith))
+returns c =
+    let l = length-take-le c.args.m c.args.out.now c.requires.0 in
+    rw (sym c.saturating_sub-last.ensures)
+    (filled_all _ _ _ c.loop-x.invariant _ _ _ (c.loop-x.auto.x-items ∙ l) (omega (arith, l))
+    (ascending_done _ _ _ _ _ _ _ (omega (arith, l))))

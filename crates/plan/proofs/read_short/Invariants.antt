@@ -1,11 +1,11 @@
-use Prim.Native.Nat.{◌-◌, ◌≤◌}
+use mathlib.Core.Path.{◌≡◌}
+use Prim.Native.Nat.{◌-◌}
+use lib.ListN.{take}
 use Rattle.field.specs.Field.{ascending}
-use Rattle.plan.proofs.Reading.{Filling}
+use Rattle.field.proofs.Lists.{prefix}
 use Rattle.plan.proofs.read_short.Given as goal
 
-abbrev pub invariant-loop-i : goal.invariant-loop-i
-invariant-loop-i l =
-    Filling (ascending l.m 0 l.high l.s l.at) (ascending (l.m - l.i) l.floor l.high l.s l.p) l.initial.out l.out l.i × (l.i ≤ l.m)
-
-abbrev pub decreases-loop-i : goal.decreases-loop-i
-decreases-loop-i l = l.m - l.i
+-- the blocks read so far stand in the list, and the sheet from here on gives the rest
+abbrev pub invariant-loop-x : goal.invariant-loop-x
+invariant-loop-x l =
+    ascending l.m 0 l.last l.s l.at ≡ prefix (take l.x-index l.x-items) (ascending (l.m - l.x-index) l.floor l.last l.s l.p)

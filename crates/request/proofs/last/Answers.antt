@@ -1,14 +1,12 @@
 -- `last` meets its contract, by the two cases of `last_disk`.
 use native.Mathlib.Omega.{arith}
+use Rattle.basics.specs.Limits.{disks_most}
+use Rattle.basics.proofs.Tests.{below_or}
 use Rattle.request.proofs.Reading.{last_few, last_all}
-use mathlib.Core.Path.{sym}
 use Rattle.request.proofs.last.Goals as goal
 
-pub returns-then-most-disks : goal.returns-then-most-disks
-returns-then-most-disks c = sym (last_all _ c.if-most-disks.true)
-
-pub returns-then-disks-eq0 : goal.returns-then-disks-eq0
-returns-then-disks-eq0 c = omega (arith, last_few c.args.disks (omega arith))
-
 pub returns : goal.returns
-returns c = sym (last_few _ (omega arith))
+returns c =
+    below_or c.args.disks disks_most
+    (λ m. omega (arith, last_few c.args.disks (omega arith)))
+    (λ m. omega (arith, last_all c.args.disks (omega arith)))

@@ -1,16 +1,13 @@
 -- `not_disk`: whatever number stands there is above the last disk.
-use mathlib.Core.Path.{refl}
-use Rattle.field.proofs.Readers.{told_got, told_refused}
-use Rattle.request.specs.Parts.{told_copies}
-use Rattle.request.proofs.Reading.{beyond_got, beyond_stops}
+use mathlib.Core.Path.{sym, ◌∙◌}
+use Rattle.field.proofs.Readers.{refused_as}
+use Rattle.request.proofs.Reading.{disk_above, disk_stops}
 use Rattle.request.proofs.not_disk.Goals as goal
 
-pub returns-in-Got : goal.returns-in-Got
-unfolding told_copies
-returns-in-Got c =
+pub returns-in-Ok : goal.returns-in-Ok
+returns-in-Ok c =
     let pre = c.requires in
-    beyond_got _ _ _ pre.0 pre.1 pre.2 refl (told_got c.number.ensures c.in-Got.is)
+    λ floor. disk_above _ _ _ floor pre.0 pre.1 pre.2 (sym c.in-Ok.ensures) ∙ sym (refused_as c.at.ensures)
 
-pub returns-in-Refused : goal.returns-in-Refused
-unfolding told_copies
-returns-in-Refused c = beyond_stops _ _ _ refl (told_refused c.number.ensures c.in-Refused.is)
+pub returns-in-Err : goal.returns-in-Err
+returns-in-Err c = λ floor. disk_stops _ _ _ floor (sym c.in-Err.ensures)

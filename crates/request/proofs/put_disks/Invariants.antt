@@ -1,8 +1,6 @@
+use Rattle.mask.specs.Rising.{disks_left}
 use Rattle.request.proofs.Writing.{Left}
 use Rattle.request.proofs.put_disks.Given as goal
 
-abbrev pub invariant-loop-rest : goal.invariant-loop-rest
-invariant-loop-rest l = Left l.m l.initial.out l.at l.rest l.out l.p
-
-abbrev pub decreases-loop-rest : goal.decreases-loop-rest
-decreases-loop-rest l = l.rest
+abbrev pub invariant-loop-d : goal.invariant-loop-d
+invariant-loop-d l = Left l.m (disks_left l.d-iterator) l.initial.pen l.pen

@@ -25,16 +25,16 @@ returns-in-Free c =
     let w = rw c.in-Free.is at s.0 in
     record { drawn = c.pull.ensures; disk = w.1.disk; had = w.2; long = s.2 }
 
-pub returns-in-Stuck : goal.returns-in-Stuck
+pub returns-in_default : goal.returns-in_default
 unfolding Sought Improved
-returns-in-Stuck c =
+returns-in_default c =
     let s = c.seek-hit.ensures in
-    record {
+    rw c.in_default.is (record {
       same_seats = refl;
       same_counts = refl;
       same_next = refl;
       same_prev = refl;
       far = s.1;
       long = s.2;
-      caught = rw c.in-Stuck.is at s.0;
-    }
+      caught = rw c.in_default.is at s.0;
+    })

@@ -5,7 +5,8 @@ use Rattle.search.proofs.visit.Given as goal
 
 abbrev pub invariant-loop-y : goal.invariant-loop-y
 invariant-loop-y l =
-    Round l.n l.q l.b l.base l.bound l.d l.masks l.seats l.next l.room l.initial.disks l.by l.steps l.disks l.y l.seen
+    let t = l.task in
+    Round t.n t.q t.b t.base t.bound l.d l.masks l.seats l.next t.room l.initial.disks l.by l.steps l.disks l.y l.seen
 
 abbrev pub decreases-loop-y : goal.decreases-loop-y
 decreases-loop-y l = hops l.next nodes_most l.y

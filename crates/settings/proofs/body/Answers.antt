@@ -1,35 +1,27 @@
--- `settings::body`: the loop's invariant is `Rows`: what was read, then the definition of the rest. The measure is what is left of N.
-use mathlib.Core.Path.{refl}
+-- The loop's invariant is `Rows`: what was read, then the definition of the rest.
+use mathlib.Core.Path.{sym, ap, ◌∙◌}
 use native.Mathlib.Omega.{arith}
-use Rattle.field.proofs.Readers.{told_got, told_refused}
-use Rattle.settings.specs.Parts.{told_row}
-use Rattle.settings.proofs.Reading.{told_by_law, rows_start, rows_step, rows_stop, rows_extra, rows_told, told_none}
+use Rattle.basics.proofs.Question.{passed_on}
+use Rattle.field.specs.Sheet.{got}
+use Rattle.field.specs.Told.{told_by}
+use Rattle.settings.proofs.Reading.{rows_start, slots_length, rows_step, rows_stop, rows_extra, rows_told}
 use Rattle.settings.proofs.body.Goals as goal
 
-pub loop-i-init : goal.loop-i-init
-loop-i-init c = (rows_start _ _ _ c.empty-none.ensures, refl)
+pub loop-slot-init : goal.loop-slot-init
+loop-slot-init c = rows_start _ _ _ c.empty.ensures c.requires
 
-pub returns-in-Refused : goal.returns-in-Refused
-unfolding told_row
-returns-in-Refused c =
-    told_none _
-    (rows_stop c.loop-i.invariant.0 (omega arith)
-    (told_by_law told_row c.row_at.ensures c.in-Refused.is))
-    c.refuse.ensures
+pub returns-in_err-row : goal.returns-in_err-row
+returns-in_err-row c =
+    ap (told_by (λ t. got t _)) (passed_on c.from_residual.ensures)
+    ∙ sym (rows_stop c.loop-slot.invariant (omega (arith, slots_length c.loop-slot.invariant)) (sym c.in_err-row.ensures))
 
-pub loop-i-preserved : goal.loop-i-preserved
-unfolding told_row
-loop-i-preserved c =
-    let so_far = c.loop-i.invariant in
-    (rows_step so_far.0 c.requires (omega arith) (told_by_law told_row c.row_at.ensures c.in-Got.is), so_far.1)
+pub loop-slot-preserved : goal.loop-slot-preserved
+loop-slot-preserved c = rows_step c.loop-slot.invariant (omega (arith, slots_length c.loop-slot.invariant)) (sym c.in_ok-row.ensures)
 
-pub returns-in-Got-end : goal.returns-in-Got-end
-returns-in-Got-end c =
-    rows_told c.loop-i.invariant.0 (omega arith)
-    (told_got c.end.ensures c.in-Got-end.is)
+pub returns-in_err-end : goal.returns-in_err-end
+returns-in_err-end c =
+    ap (told_by (λ t. got t _)) (passed_on c.from_residual-in_err-end.ensures)
+    ∙ sym (rows_extra c.loop-slot.invariant (omega (arith, slots_length c.loop-slot.invariant)) (sym c.in_err-end.ensures))
 
-pub returns-in-Refused-end : goal.returns-in-Refused-end
-returns-in-Refused-end c =
-    told_none _
-    (rows_extra c.loop-i.invariant.0 (omega arith) (told_refused c.end.ensures c.in-Refused-end.is))
-    c.refuse-in-Refused-end.ensures
+pub returns : goal.returns
+returns c = rows_told c.loop-slot.invariant c.empty.ensures (omega (arith, slots_length c.loop-slot.invariant)) (sym c.in_ok-end.ensures)

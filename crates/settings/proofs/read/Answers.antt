@@ -1,23 +1,18 @@
--- `settings::read`: a sheet is its heading, then its rows and its end.
-use Rattle.settings.specs.Parts.{told_head}
+-- A sheet is its heading, then its rows and its end.
+use mathlib.Core.Path.{sym, ap, ◌∙◌}
+use Rattle.basics.proofs.Question.{passed_on}
+use Rattle.field.specs.Sheet.{got}
+use Rattle.field.specs.Told.{told_by}
 use Rattle.settings.proofs.Accepted.{heading_disks}
-use Rattle.settings.proofs.Reading.{told_by_law, told_none, read_told, read_stops}
+use Rattle.settings.proofs.Reading.{read_told, read_stops}
 use Rattle.settings.proofs.read.Goals as goal
 
+pub returns-in_err-head : goal.returns-in_err-head
+returns-in_err-head c =
+    ap (told_by (λ t. got t _)) (passed_on c.from_residual.ensures) ∙ sym (read_stops _ _ _ (sym c.in_err-head.ensures))
+
 pub body-requires : goal.body-requires
-unfolding told_head
-body-requires c =
-    (heading_disks _ _ _ _ _ _ (told_by_law told_head c.heading.ensures c.in-Got.is)).1
+body-requires c = (heading_disks _ _ _ _ _ _ (sym c.in_ok-head.ensures)).1
 
-pub returns-in-Got : goal.returns-in-Got
-unfolding told_head
-returns-in-Got c =
-    read_told _ _ _ (told_by_law told_head c.heading.ensures c.in-Got.is)
-    c.body.ensures
-
-pub returns-in-Refused : goal.returns-in-Refused
-unfolding told_head
-returns-in-Refused c =
-    told_none _
-    (read_stops _ _ _ (told_by_law told_head c.heading.ensures c.in-Refused.is))
-    c.refuse.ensures
+pub returns : goal.returns
+returns c = read_told _ _ _ (sym c.in_ok-head.ensures) c.body.ensures

@@ -1,12 +1,21 @@
 use Prim.Native.Nat.{◌+◌, ◌-◌, ◌*◌}
-use Rattle.basics.specs.Limits.{blocks_most, time_most}
-use Rattle.timing.specs.Parts.{SoFar}
+use mathlib.Core.Path.{◌≡◌}
+use lib.Dec.{eqb}
+use lib.ListN.{get_or}
+use Rattle.basics.specs.Limits.{time_most}
+use Rattle.basics.specs.Count.{bit}
+use Rattle.timing.specs.Boards.{SoFar}
 use Rattle.timing.proofs.least.Given as goal
 
 abbrev pub invariant-loop-b : goal.invariant-loop-b
-invariant-loop-b l =
-    SoFar l.n l.q l.b l.masks l.costs l.starts l.caps l.seats l.counts l.next l.prev l.out l.by l.moment.time l.moment.room
+invariant-loop-b l = SoFar l.demand l.b l.masks l.caps l.board l.by l.moment
 
-abbrev pub decreases-loop-b : goal.decreases-loop-b
-decreases-loop-b l =
-    (time_most - l.moment.time) * (blocks_most + 1) + (l.q - l.b)
+-- block b is still on no disk, or is on one
+abbrev pub invariant-loop-board : goal.invariant-loop-board
+invariant-loop-board l = record {
+  off : get_or l.board.seats l.b 0 ≡ l.demand.n → SoFar l.demand l.b l.masks l.caps l.board l.by l.moment;
+  on : (get_or l.board.seats l.b 0 ≡ l.demand.n → ⊥) → SoFar l.demand (l.b + 1) l.masks l.caps l.board l.by l.moment;
+}
+
+abbrev pub decreases-loop-board : goal.decreases-loop-board
+decreases-loop-board l = (time_most - l.moment.time) * 2 + bit (eqb (get_or l.board.seats l.b 0) l.demand.n)

@@ -1,28 +1,36 @@
 -- What was asked is lent for its reason, or a refusal stands: `no_block`, `no_disk_law`, `told`, `not_asked`.
 use native.Mathlib.Omega.{arith}
-use Rattle.why.proofs.Answers.{no_block, no_disk_law, can_lend, told, not_asked}
+use mathlib.Core.Path.{refl, sym, ◌∙◌}
+use Rattle.basics.proofs.Question.{passed_on}
+use Rattle.field.proofs.Readers.{refused_as}
+use Rattle.planner.proofs.Asking.{lent, lent_case, refused_of}
+use Rattle.unit.specs.Unit.{tenancy_of}
+use Rattle.why.proofs.Answers.{explains_refused, not_asked, no_block, no_disk_law, told}
 use Rattle.why.proofs.answer.Goals as goal
+use Rattle.why.proofs.answer.Goals.{then-said-block-via-then-said-block, then-said-block-via-else-said-block+then-said-disk}
 
-pub returns-then-q-block : goal.returns-then-q-block
-returns-then-q-block c =
-    no_block c.requires _ _ _ c.ask-said.ensures c.in-Accepted.is c.if-q-block.true
+pub returns-in_err-said : goal.returns-in_err-said
+returns-in_err-said c = not_asked _ _ _ (passed_on c.from_residual.ensures) (refused_of c.in_err-said.ensures)
 
-pub returns-then-n-disk : goal.returns-then-n-disk
-returns-then-n-disk c =
-    no_disk_law c.requires _ _ _ c.ask-said.ensures c.in-Accepted.is c.if-n-disk.true
+pub returns-then-said-block : goal.returns-then-said-block
+returns-then-said-block c =
+    let w = lent c.args.u.number (tenancy_of c.args.u) c.args.sheet.now c.requires.proper c.in_ok-said.ensures in
+    let h = lent_case c.in_ok-said.ensures in
+    explains_refused _ _ _ refl
+    (elim c.then-said-block.branch [
+      | then-said-block-via-then-said-block w' ↦ no_block c.in_ok-said.said h w _ _ w'.if-said-block.true
+      | then-said-block-via-else-said-block+then-said-disk w' ↦ no_disk_law c.in_ok-said.said h w _ _ w'.if-said-disk.true
+    ] ∙ sym (refused_as c.at.ensures))
 
 pub lend-requires : goal.lend-requires
 lend-requires c = (
-  can_lend c.requires _ c.ask-said.ensures c.in-Accepted.is,
-  omega (arith, c.if-q-block.false),
-  omega (arith, c.if-n-disk.false),
+  lent c.args.u.number (tenancy_of c.args.u) c.args.sheet.now c.requires.proper c.in_ok-said.ensures,
+  omega (arith, c.if-said-block.false),
+  omega (arith, c.if-said-disk.false),
 )
 
-pub returns-else-n-disk : goal.returns-else-n-disk
-returns-else-n-disk c =
-    told c.requires _ _ _ c.ask-said.ensures c.in-Accepted.is
-    (omega (arith, c.if-q-block.false)) (omega (arith, c.if-n-disk.false)) c.lend.ensures
-
-pub returns-in-Refused : goal.returns-in-Refused
-returns-in-Refused c =
-    not_asked c.requires _ _ _ c.ask-said.ensures c.in-Refused.is
+pub returns : goal.returns
+returns c =
+    told c.in_ok-said.said (lent_case c.in_ok-said.ensures)
+    (lent c.args.u.number (tenancy_of c.args.u) c.args.sheet.now c.requires.proper c.in_ok-said.ensures) _ _
+    (omega (arith, c.if-said-block.false)) (omega (arith, c.if-said-disk.false)) c.lend.ensures

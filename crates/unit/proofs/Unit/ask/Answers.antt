@@ -6,4 +6,4 @@ pub ask-requires : goal.ask-requires
 ask-requires c = c.requires.proper
 
 pub returns : goal.returns
-returns c = spelled_for _ _ c.tenancy-tenancy.ensures c.ask.ensures
+returns c = spelled_for _ _ c.tenancy.ensures c.ask.ensures

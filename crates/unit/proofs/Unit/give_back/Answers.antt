@@ -1,19 +1,18 @@
 -- Each return is one law of `give_back`.
-use Rattle.unit.proofs.Lives.{back_anew}
-use Rattle.unit.proofs.Lives.{back_other, back_free}
-use Rattle.unit.specs.Life.{takes, refuses}
-use Rattle.unit.specs.Told.{told, told_verdict}
-use mathlib.Core.Path.{sym}
+use mathlib.Core.Path.{sym, ap, ◌∙◌}
+use Rattle.field.specs.Refusal.{note_of}
+use Rattle.unit.specs.Life.{refuses}
+use Rattle.unit.proofs.Lives.{not_rented, is_rented, back_anew, back_other, back_free}
 use Rattle.unit.proofs.Unit.give_back.Goals as goal
+use Rattle.unit.proofs.Unit.give_back.Goals.{then-not-self-via-then-not-self, then-not-self-via-else-not-self+then-tenancy-self}
 
-pub returns-then-tenancy-self : goal.returns-then-tenancy-self
-unfolding told told_verdict takes
-returns-then-tenancy-self c = sym (back_anew _ _ c.if-self.true c.if-tenancy-self.true _ c.empty-self.ensures)
+pub returns-then-not-self : goal.returns-then-not-self
+returns-then-not-self c =
+    c.refused.ensures ∙ ap (λ f. refuses c.args.self (note_of f)) c.at.ensures
+    ∙ sym (elim c.then-not-self.branch [
+      | then-not-self-via-then-not-self w ↦ back_free _ _ (not_rented _ w.if-not-self.true)
+      | then-not-self-via-else-not-self+then-tenancy-self w ↦ back_other _ _ (is_rented _ w.if-not-self.false) w.if-tenancy-self.true
+    ])
 
-pub returns-else-tenancy-self : goal.returns-else-tenancy-self
-unfolding told told_verdict refuses
-returns-else-tenancy-self c = sym (back_other _ _ c.if-self.true c.if-tenancy-self.false)
-
-pub returns-else-self : goal.returns-else-self
-unfolding told told_verdict refuses
-returns-else-self c = sym (back_free _ _ c.if-self.false)
+pub returns : goal.returns
+returns c = c.accepted.ensures ∙ sym (back_anew _ _ (is_rented _ c.if-not-self.false) c.if-tenancy-self.false _ c.empty-self.ensures)
