@@ -12,7 +12,7 @@ use wire::Failed;
 // One byte more than the longest input shows that input follows the second sheet.
 const BUFFER: usize = INPUT_MOST + 1;
 
-// The line of all of the input, whatever follows a buffer that is full.
+// The line of all of the input, whatever follows a buffer that is full. n beside the buffer: `Answers` speaks of both.
 fn answer(input: &[u8], n: usize, line: &mut Line) -> usize
     requires { (n ≤ length input.now) × (input_most < length input.now) }
     ensures { Answers input.now n line.old result line.new }
@@ -21,6 +21,7 @@ fn answer(input: &[u8], n: usize, line: &mut Line) -> usize
 }
 
 fn run(rt: &HostRuntime) -> Result<(), Failed> {
+    // No memory is asked for, so that none can run out.
     let mut input = [0u8; BUFFER];
     let mut line = [0u8; LINE_MOST];
     let n = wire::read_all(rt, &mut rt.stdin(), &mut input)?;

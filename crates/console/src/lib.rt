@@ -17,6 +17,7 @@ pub const INPUT_MOST: usize = 5 + 5 + (2 + REQUEST_MOST) + (2 + REQUEST_MOST);
 fn show(unit: u32, tenancy: u32, sheet: &[u8], line: &mut Line) -> usize
     ensures { Shows unit tenancy sheet.now line.old result line.new }
 {
+    // Arrays of fixed length: the library crates have no heap.
     let mut disks = [0u8; BLOCKS];
     let mut short = [0u16; BLOCKS];
     match plan::read(sheet, unit, tenancy, &mut disks, &mut short) {

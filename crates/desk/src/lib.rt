@@ -16,6 +16,7 @@ use field::{Fault, Refusal};
 use model::Rule;
 
 // The numbers of a list of costs, loads, delays or marks: so many of 64 places.
+// Its places are an array of fixed length: the library crates have no heap.
 #[derive(Clone, Copy)]
 struct Numbers {
     places: [u32; DISKS],

@@ -129,6 +129,7 @@ pub fn least(copies: &[u64], costs: &[u32], starts: &[u32]) -> u32
     schedule(demand, &masks, &mut [0u32; DISKS], &mut Board::new())
 }
 
+// Arrays of fixed length: the library crates have no heap.
 // The plan of the case that the slices spell: disks[b] is the disk of block b, short[..size] the short set, time the least time.
 // Costs and starts one by one, as document 01 lends them.
 pub fn plan(

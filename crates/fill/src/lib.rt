@@ -53,6 +53,7 @@ pub fn place_all(n: usize, q: usize, masks: &Masks, caps: &Capacities, board: &m
     requires { Packing n q masks.now caps.now board.old }
     ensures { Packed n q masks.now caps.now board.new result }
 {
+    // Arrays of fixed length: the library crates have no heap.
     let mut by = [0u16; PLACES];
     let mut known = Known {
         room: board.open(n, caps),

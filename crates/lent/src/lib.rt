@@ -90,7 +90,7 @@ impl Bytewise<8> for u64 {
     }
 }
 
-// The numbers of a list, at the start of a buffer.
+// The numbers of a list, at the start of a buffer. Arrays of fixed length: the library crates have no heap.
 fn gather<T: Bytewise<W>, const W: usize>(bytes: &[u8], out: &mut [T])
     requires { (0 < W) × (W ≤ 8) × (length bytes.now / W ≤ length out.old) }
     ensures { out.new ≡ over (map T.of_bytes (first_chunks W (length bytes.now / W) bytes.now)) out.old }

@@ -34,7 +34,7 @@ pub enum Word {
     Reason(u32, u32),
 }
 
-// A digit below 16.
+// A digit below 16: the definition's `digit` in code.
 fn digit(d: u8) -> u8
     requires { d < 16 }
     ensures { result ≡ digit_of d }
@@ -154,7 +154,7 @@ impl Pen<'_> {
         }
     }
 
-    // The fields before the lists.
+    // The fields before the lists. Unit and tenancy one by one, here and in `plan_line`: two numbers of a plan, each printed once.
     fn heading(&mut self, unit: u32, tenancy: u32, q: u32, time: u32)
         ensures { Writes (word_plan ++ spell_all spaced (unit ∷ tenancy ∷ q ∷ time ∷ [])) self.old self.new }
     {

@@ -134,6 +134,7 @@ pub fn first(n: usize, q: usize, cut: &mut Masks, caps: &Capacities, board: &mut
     requires { Scheduled n q cut.old caps.now board.old }
     ensures { Ordered n q cut.old caps.now board.new.seats }
 {
+    // Arrays of fixed length: the library crates have no heap.
     let mut dead = [0u64; DISKS];
     let mut by = [0u16; PLACES];
     let mut free = board.open(n, caps);

@@ -17,7 +17,7 @@ use basics::{BLOCKS, DISKS, TIME_MOST};
 use field::{Fault, Pen, Refusal};
 use number::Numeral;
 
-// The kind of a plan sheet.
+// The kind of a plan sheet, as a number: `field` knows no sheet's kinds.
 const KIND: u32 = 3;
 
 // What an accepted plan sheet says, beside its two lists.
@@ -48,7 +48,7 @@ fn if_any(q: u32, n: u32) -> u32
     if q == 0 { 0 } else { n }
 }
 
-// The disks of q blocks, put at the start of a list: the place after them.
+// The disks of q blocks, put at the start of a list: the place after them. q beside the list, which may be longer.
 fn read_disks(s: &[u8], at: usize, q: u32, out: &mut [u8]) -> Result<usize, Fault>
     requires { q ≤ length out.old }
     ensures { ReadInto (times q disk s.now at) out.old result out.new }

@@ -16,7 +16,7 @@ use model::Rule;
 use settings::Table;
 
 // What was asked: Q and N, the copies of each block, the cost and the start of each disk. All else is 0 (`Spells`): arrays, as the library
-// crates have no heap.
+// crates have no heap, and a vector of fixed capacity is a ported crate's, to be trusted anew.
 #[derive(Clone, Copy)]
 pub struct Spelling {
     pub blocks: usize,
@@ -56,6 +56,7 @@ impl Spelling {
         requires { Lent self.now }
         ensures { Solved number tenancy (case_lent self.now) out.old result out.new }
     {
+        // Arrays of fixed length: the library crates have no heap.
         let mut disks = [0u8; BLOCKS];
         let mut short = [0u16; BLOCKS];
         let found = engine::plan(
@@ -83,8 +84,8 @@ pub fn ask(number: u32, tenancy: u32, table: Table, sheet: &[u8]) -> Result<Spel
     ensures { Asks (asked number tenancy table sheet.now) (length sheet.now) result }
 {
     let out = out_of(table);
-    // A match: a request of one block took 35 thousand instructions in the old form; with `?` it takes 43 thousand, as the copies are moved
-    // once more, with the match 34 thousand.
+    // A match: `?` moves the copies once more, 9 thousand instructions a request, and then experiment-20 of docs/SPEED.md takes more than
+    // 450 thousand, which it kept before.
     let said = match request::read(sheet, number, tenancy, table.disks, out) {
         Ok(said) => said,
         Err(e) => return Err(e),

@@ -79,6 +79,7 @@ pub fn explain(copies: &[u64], costs: &[u32], starts: &[u32], block: usize, disk
     if !mask::held(copies[block], disk) {
         return Reason::NoCopy;
     }
+    // Arrays of fixed length: the library crates have no heap.
     let mut disks = [0u8; BLOCKS];
     let mut short = [0u16; BLOCKS];
     let found = engine::plan(copies, costs, starts, &mut disks, &mut short);

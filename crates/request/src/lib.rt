@@ -112,6 +112,7 @@ fn blocks(s: &[u8], at: usize, heading: Head, high: u32, out: u64) -> Result<Req
     requires { (heading.blocks ≤ blocks_most) × (high < disks_most) }
     ensures { Told (length s.now) (whole (body_of heading high (has out)) s.now at) result }
 {
+    // Arrays of fixed length: the library crates have no heap.
     let mut copies = [0u64; BLOCKS];
     let q = heading.blocks as usize;
     let mut p = at;

@@ -65,6 +65,7 @@ fn request(u: Unit, room: usize, sheet: &[u8], line: &mut Line) -> usize
     requires { Sound u × (room ≤ room_most) }
     ensures { Answers u (requests room sheet.now) line.old result u line.new }
 {
+    // Arrays of fixed length: the library crates have no heap.
     let mut out = [0u8; ROOM_MOST];
     match u.request(sheet, &mut out[..room]).answer {
         Ok(n) => line::sheet_line(&out[..n], line),

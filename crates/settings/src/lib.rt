@@ -66,7 +66,7 @@ struct Lists<'a> {
     marks: &'a [u32],
 }
 
-// No settings yet: N is 0, the rule is the sum, all rows are 0.
+// No settings yet: N is 0, the rule is the sum, all rows are 0, as `no_table` has them.
 pub fn empty() -> Table
     ensures { result ≡ no_table }
 {
@@ -96,7 +96,7 @@ impl From<Kind> for u32 {
     }
 }
 
-// The kind of a number.
+// The kind of a number, as a sheet has it.
 impl TryFrom<u32> for Kind {
     type Error = Refusal;
 
@@ -367,7 +367,7 @@ pub fn write(
     send(rule.into(), unit, tenancy, rule.into(), lists, out)
 }
 
-// Writes a settings sheet of kind 6: the start rule's number, and the disks' costs, loads, delays and marks.
+// Writes a settings sheet of kind 6: the start rule's number, and the disks' costs, loads, delays and marks, one by one as C hands them on.
 pub fn write_marked(
     unit: u32,
     tenancy: u32,

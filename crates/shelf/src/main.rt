@@ -24,6 +24,7 @@ fn shift(buf: &mut [u8], used: usize, have: usize) -> usize
 // nothing says that the input does: it takes at most so many turns as no run uses up.
 fn run(rt: &HostRuntime) -> Result<(), Failed> {
     let mut stdin = rt.stdin();
+    // No memory is asked for, so that none can run out.
     let mut buf = [0u8; BUFFER];
     let mut line = [0u8; LINE_MOST];
     let mut shelf = Shelf::new();

@@ -132,6 +132,7 @@ pub fn least(demand: Demand, masks: &Masks, caps: &mut Capacities, board: &mut B
     requires { Blank demand masks.now caps.old board.old }
     ensures { Least demand.entry masks.now caps.new board.new result }
 {
+    // Arrays of fixed length: the library crates have no heap.
     let mut by = [0u16; PLACES];
     let mut moment = Moment { time: 0, room: 0 };
     capacity::capacities(demand.n, demand.rates, 0, caps);
