@@ -5,7 +5,7 @@ ghost use Rattle.console.specs.Bench.{bench_input, Tells};
 ghost use Rattle.console.specs.Parts.{Rented, Shows, Replies, Readied};
 
 use basics::{BLOCKS, PLAN_MOST, REQUEST_MOST};
-use field::Fault;
+use field::{Fault, Refusal};
 use line::{Line, refuse};
 use stream::{Span, sheet};
 use unit::Unit;
@@ -57,7 +57,10 @@ fn ready(input: &[u8]) -> Result<(Unit, Span), Fault>
     let set = rented.unit.settings(settings.of(input));
     set.answer?;
     let request = sheet(input, settings.to)?;
-    field::end(input, request.to)?;
+    // Here and not by `field::end`: so one value says what is refused (`must-fail/extra`).
+    if request.to != input.len() {
+        return Err(Refusal::BytesFollow.at(request.to));
+    }
     Ok((set.unit, request))
 }
 

@@ -3,7 +3,8 @@
 --     short_sent                    so its length and its place have room in their bits
 --     exported                      what a writer did, packed
 --     sent_six, sent_as             a list that is no list of numbers; another name of a draft
---     costs_unusable, loads_unusable, delays_unusable     lists that are broken or too long
+--     costs_unusable, loads_unusable, delays_unusable, rows_unusable     lists that are broken or too long
+--     costs_usable, loads_usable, delays_usable     lists of which none is
 --     settings_unusable, marked_unusable, marks_unusable     they are 6
 --     settings_usable, marked_usable     else the sheet is that of the numbers
 --     tenancy_broken, tenancy_whole     the tenancy that the request's writer takes
@@ -24,7 +25,7 @@ use Rattle.basics.specs.Limits.{disks_most, blocks_most}
 use Rattle.basics.specs.Buffer.{over}
 use Rattle.basics.proofs.Choice.{pick_true, pick_false, pick_elim}
 use Rattle.basics.proofs.Count.{bit_le}
-use Rattle.basics.proofs.Tests.{by_cases, differ, or_left, or_right}
+use Rattle.basics.proofs.Tests.{by_cases, both, differ, or_left, or_right}
 use Rattle.field.specs.declared.Fault.{Fault}
 use Rattle.field.specs.declared.Refusal.TheVariants.{OutOfRange}
 use Rattle.std.specs.Prelude.{Result, Ok, Err}
@@ -47,6 +48,7 @@ use Rattle.lent.specs.Numbers.{numbers, broken, usable}
 use Rattle.lent.specs.Packed.{lengths, writer_answer, Fits32}
 use Rattle.desk.specs.Desk.{broken_rows, settings_draft_of_bytes, marked_draft_of_bytes}
 use Rattle.desk.specs.Desk.{tenancy_with, request_draft_of_bytes, Exported}
+use Rattle.desk.specs.Parts.{usable_rows}
 use Rattle.lent.proofs.Numbers.{numbers_length}
 use Rattle.lent.proofs.Over.{part_numbers}
 use Rattle.lent.proofs.Tests.{is_usable, not_usable}
@@ -116,6 +118,26 @@ module _ (t : ℕ) (costs loads delays ms : List ℕ) where
       ⊎_elim (λ b. inl (or_right (broken 4 costs) _ (or_right (broken 4 loads) _ b)))
       (λ m. inr (λ w. omega (arith, w.few, w.level.delays)))
       (not_usable 4 disks_most delays h)
+
+  -- one of them
+  pub rows_unusable : usable_rows costs loads delays ≡ false → Unusable t costs loads delays ms
+  rows_unusable h =
+      by_cases (usable 4 disks_most costs)
+      (λ c. by_cases (usable 4 disks_most loads)
+      (λ l. delays_unusable (sym (rw (c, l) refl) ∙ h))
+      loads_unusable)
+      costs_unusable
+
+-- lists of which each is usable
+module _ (costs loads delays : List ℕ) (h : usable_rows costs loads delays ≡ true) where
+  pub costs_usable : usable 4 disks_most costs ≡ true
+  costs_usable = (both (usable 4 disks_most costs) _ h).0
+
+  pub loads_usable : usable 4 disks_most loads ≡ true
+  loads_usable = (both (usable 4 disks_most loads) _ (both (usable 4 disks_most costs) _ h).1).0
+
+  pub delays_usable : usable 4 disks_most delays ≡ true
+  delays_usable = (both (usable 4 disks_most loads) _ (both (usable 4 disks_most costs) _ h).1).1
 
 -- 6 before the rest, or among it
 six_either : (b : Bool) (d : Draft) → (b ≡ true) ⊎ (d ≡ none (unplaced 6)) → pick b (none (unplaced 6)) d ≡ none (unplaced 6)

@@ -9,6 +9,7 @@ ghost use Rattle.field.specs.Send.{Sent};
 ghost use Rattle.model.specs.declared.Rule.TheVariants.{Sum, Larger};
 ghost use Rattle.lent.specs.Numbers.{numbers, usable};
 ghost use Rattle.desk.specs.Desk.{settings_draft_of_bytes, marked_draft_of_bytes};
+ghost use Rattle.desk.specs.Parts.{usable_rows};
 ghost use Rattle.desk.specs.Desk.{tenancy_with, request_draft_of_bytes, Exported, PlanRead};
 
 use basics::{BLOCKS, DISKS};
@@ -25,19 +26,15 @@ struct Numbers {
 }
 
 impl Numbers {
-    // Those of four bytes each; 6 where the list is broken or too long.
-    fn of(bytes: &[u8]) -> Result<Numbers, Fault>
-        ensures { MatchResult result
-            (λ n. (usable 4 disks_most bytes.now ≡ true) × (take n.count n.places ≡ numbers 4 bytes.now))
-            (λ f. (usable 4 disks_most bytes.now ≡ false) × (f ≡ fault_at OutOfRange 0)) }
+    // Those of four bytes each. A list is looked at before (`whole`): numbers in a `Result` are made and moved once more, for each list.
+    fn of(bytes: &[u8]) -> Numbers
+        requires { usable 4 disks_most bytes.now ≡ true }
+        ensures { take result.count result.places ≡ numbers 4 bytes.now }
     {
-        if !lent::usable(bytes, 4, DISKS) {
-            return Err(Refusal::OutOfRange.at(0));
-        }
-        Ok(Numbers {
+        Numbers {
             places: lent::fours(bytes),
             count: bytes.len() / 4,
-        })
+        }
     }
 
     // Themselves.
@@ -46,6 +43,30 @@ impl Numbers {
     {
         &self.places[..self.count]
     }
+}
+
+// Whether a list is one of numbers; 6 where it is broken or too long.
+fn whole(bytes: &[u8]) -> Result<(), Fault>
+    ensures { MatchResult result
+        (λ a. usable 4 disks_most bytes.now ≡ true)
+        (λ f. (usable 4 disks_most bytes.now ≡ false) × (f ≡ fault_at OutOfRange 0)) }
+{
+    if !lent::usable(bytes, 4, DISKS) {
+        return Err(Refusal::OutOfRange.at(0));
+    }
+    Ok(())
+}
+
+// Whether costs, loads and delays are.
+fn rows(costs: &[u8], loads: &[u8], delays: &[u8]) -> Result<(), Fault>
+    ensures { MatchResult result
+        (λ a. usable_rows costs.now loads.now delays.now ≡ true)
+        (λ f. (usable_rows costs.now loads.now delays.now ≡ false) × (f ≡ fault_at OutOfRange 0)) }
+{
+    whole(costs)?;
+    whole(loads)?;
+    whole(delays)?;
+    Ok(())
 }
 
 // Writes a settings sheet of a start rule: four bytes for each cost, load and delay. The lists come one by one, as from C
@@ -62,14 +83,15 @@ fn write_settings(
     ensures { Sent (settings_draft_of_bytes rule unit tenancy costs.now loads.now delays.now)
         out.old result out.new }
 {
-    let c = Numbers::of(costs)?;
-    let l = Numbers::of(loads)?;
-    let d = Numbers::of(delays)?;
+    rows(costs, loads, delays)?;
+    let c = Numbers::of(costs);
+    let l = Numbers::of(loads);
+    let d = Numbers::of(delays);
     settings::write(rule, unit, tenancy, c.list(), l.list(), d.list(), out)
 }
 
 // Writes a settings sheet with marks: four bytes for each cost, load, delay and mark. The rule is a number, as C hands it on. With
-// `write_settings` it shares `Numbers::of`; the rest is the call of another writer.
+// `write_settings` it shares `rows` and `Numbers::of`; the rest is the call of another writer.
 fn write_marked(
     unit: u32,
     tenancy: u32,
@@ -84,10 +106,12 @@ fn write_marked(
         (marked_draft_of_bytes unit tenancy rule costs.now loads.now delays.now marks.now)
         out.old result out.new }
 {
-    let c = Numbers::of(costs)?;
-    let l = Numbers::of(loads)?;
-    let d = Numbers::of(delays)?;
-    let m = Numbers::of(marks)?;
+    rows(costs, loads, delays)?;
+    whole(marks)?;
+    let c = Numbers::of(costs);
+    let l = Numbers::of(loads);
+    let d = Numbers::of(delays);
+    let m = Numbers::of(marks);
     settings::write_marked(
         unit,
         tenancy,

@@ -2,9 +2,10 @@
 --     Kept               copies in use
 --     Columns            the cost and the start of each disk, and 0 behind them
 --     Lent, case_lent     the lists of what was asked, cut to Q and N; the case that they spell
+--     handed_out          what was asked, where it was lent a place, as an answer
 --     Solvable, Solved   lists that spell a case within the limits; the sheet of its plan was sent
 --     cut_to              the values that the engine found, cut to Q blocks
-use Rattle.std.specs.Prelude.{ℕ, ◌≤◌, ◌<◌, not, ◌&&◌, ◌≡◌, List, Result, map, length, take, get_or}
+use Rattle.std.specs.Prelude.{ℕ, ◌≤◌, ◌<◌, not, ◌&&◌, ◌≡◌, List, Result, Ok, Err, map, length, take, get_or}
 use Rattle.mask.specs.Has.{has}
 use Rattle.basics.specs.Padded.{pad_to}
 use Rattle.basics.specs.Limits.{disks_most}
@@ -41,6 +42,11 @@ Lent r =
 
 abbrev pub case_lent : Spelling → Case
 case_lent r = spelled (take r.blocks r.copies) (take r.disks r.costs) (take r.disks r.starts)
+
+-- a place that was lent for it holds what was asked, or the refusal stands
+abbrev pub handed_out : Result Unit Fault → Spelling → Result Spelling Fault
+handed_out (Ok a) r = Ok r
+handed_out (Err f) r = Err f
 
 pub record Solved (number tenancy : ℕ) (m : Case) (out : List ℕ) (w : Result ℕ Fault) (after : List ℕ) : Type 0 where
   pub plan : Plan

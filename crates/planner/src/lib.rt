@@ -8,7 +8,7 @@ ghost use Rattle.settings.specs.Table.{Proper};
 ghost use Rattle.planner.specs.Asked.{is_out, asked};
 ghost use Rattle.planner.specs.Lists.{Asks};
 ghost use Rattle.planner.specs.Answered.{Answered};
-ghost use Rattle.planner.specs.Parts.{Kept, Columns, Lent, case_lent, Solved};
+ghost use Rattle.planner.specs.Parts.{Kept, Columns, Lent, case_lent, handed_out, Solved};
 
 use basics::{BLOCKS, DISKS, Masks};
 use field::Fault;
@@ -27,6 +27,19 @@ pub struct Spelling {
 }
 
 impl Spelling {
+    // No blocks and no disks.
+    fn blank() -> Spelling
+        ensures { (result.blocks ≡ 0) × (result.disks ≡ 0) }
+    {
+        Spelling {
+            blocks: 0,
+            disks: 0,
+            copies: [0; BLOCKS],
+            costs: [0; DISKS],
+            starts: [0; DISKS],
+        }
+    }
+
     // The copies of its blocks.
     pub fn copies(&self) -> &[u64]
         requires { self.now.blocks ≤ length self.now.copies }
@@ -83,26 +96,13 @@ pub fn ask(number: u32, tenancy: u32, table: Table, sheet: &[u8]) -> Result<Spel
     requires { Proper table }
     ensures { Asks (asked number tenancy table sheet.now) (length sheet.now) result }
 {
-    let out = out_of(table);
-    // A match: `?` moves the copies once more, 9 thousand instructions a request, and then experiment-20 of docs/SPEED.md takes more than
-    // 450 thousand, which it kept before.
-    let said = match request::read(sheet, number, tenancy, table.disks, out) {
-        Ok(said) => said,
-        Err(e) => return Err(e),
-    };
-    let mut copies = said.copies;
-    keep(&mut copies[..said.blocks], out);
-    let (costs, starts) = columns(table, said.age);
-    Ok(Spelling {
-        blocks: said.blocks,
-        disks: table.disks as usize,
-        copies,
-        costs,
-        starts,
-    })
+    let mut said = Spelling::blank();
+    spell(number, tenancy, table, sheet, &mut said)?;
+    Ok(said)
 }
 
-// Answers a read request with the sheet of its plan, at the start of a lent buffer.
+// Answers a read request with the sheet of its plan, at the start of a lent buffer. Not by `ask`: a `Spelling` in a `Result` is made and
+// moved once more, 17 thousand instructions a request.
 pub fn plan_into(
     number: u32,
     tenancy: u32,
@@ -113,8 +113,39 @@ pub fn plan_into(
     requires { Proper table }
     ensures { Answered number tenancy (asked number tenancy table sheet.now) out.old result out.new }
 {
-    let said = ask(number, tenancy, table, sheet)?;
+    let mut said = Spelling::blank();
+    spell(number, tenancy, table, sheet, &mut said)?;
     said.solve(number, tenancy, out)
+}
+
+// The lists of the case that what a unit holds and a request sheet spell, in a lent place.
+fn spell(
+    number: u32,
+    tenancy: u32,
+    table: Table,
+    sheet: &[u8],
+    said: &mut Spelling,
+) -> Result<(), Fault>
+    requires { Proper table }
+    ensures { Asks (asked number tenancy table sheet.now) (length sheet.now) (handed_out result said.new) }
+{
+    let out = out_of(table);
+    // A match: `?` moves the copies once more, 9 thousand instructions a request.
+    let request = match request::read(sheet, number, tenancy, table.disks, out) {
+        Ok(request) => request,
+        Err(e) => return Err(e),
+    };
+    let mut copies = request.copies;
+    keep(&mut copies[..request.blocks], out);
+    let (costs, starts) = columns(table, request.age);
+    *said = Spelling {
+        blocks: request.blocks,
+        disks: table.disks as usize,
+        copies,
+        costs,
+        starts,
+    };
+    Ok(())
 }
 
 // The disks that are out, as one number.

@@ -10,7 +10,7 @@ use lib.Seq.{take-append-le}
 use Rattle.std.specs.Prelude.{Option, Some, Result, Ok, Err}
 use Rattle.basics.proofs.Choice.{pick_true, pick_false}
 use Rattle.field.specs.declared.Fault.{Fault}
-use Rattle.field.specs.Refusal.{number_of, note_of}
+use Rattle.field.specs.Refusal.{number_of}
 use Rattle.field.specs.Send.{told_written}
 use Rattle.field.specs.Sheet.{Note, Out, got, refused}
 use Rattle.unit.specs.declared.Done.{Done}
@@ -38,7 +38,7 @@ use Rattle.service.specs.declared.Shelf.{Shelf}
 use Rattle.service.specs.declared.Turn.{Turn}
 use Rattle.service.specs.Shelf.{Due, opens, asks, due, is_there, opened, or_new, unit_of, shelf_of, call_of, accepted_line, line_of}
 use Rattle.service.specs.Shelf.{Serves, last_line, waits, Comes, Turned}
-use Rattle.service.specs.Parts.{verdict_line, Answers, Tried}
+use Rattle.service.specs.Parts.{verdict_line, Answers, Answered}
 
 -- ---- the lines
 
@@ -163,16 +163,11 @@ pub turned_same : {sh : Shelf} {s : List ℕ} {ended : Bool} {o q : Out Due} {ou
     → Turned sh s ended o out t after → Turned sh s ended q out t after
 turned_same {sh} {s} {ended} {o} {q} {out} {after} {t} e w = subst (λ (x : Out Due). Turned sh s ended x out t after) (sym e) w
 
--- a refusal that was met, and handed on
-pub tried_refused : (sh : Shelf) (s : List ℕ) {o : Out Due} (out : List ℕ) {r : Result Turn Fault} {f : Fault} → r ≡ Err f
-    → o ≡ refused (note_of f) → Tried sh s o out r out
-tried_refused sh s {o} out e h = subst (λ r. Tried sh s o out r out) (sym e) (h, refl)
-
 -- the unit's number
-pub tried_opened : (sh : Shelf) (s : List ℕ) {o : Out Due} (out : List ℕ) {n e : ℕ} {u : Unit} → o ≡ got (opens n) e → u ≡ new_unit n
-    → Tried sh s o out (Ok (record { next = Served; used = e; length = 0; shelf = shelf_of u })) out
+pub turned_opened : (sh : Shelf) (s : List ℕ) (ended : Bool) {o : Out Due} (out : List ℕ) {n e : ℕ} {u : Unit} → o ≡ got (opens n) e
+    → u ≡ new_unit n → Turned sh s ended o out (record { next = Served; used = e; length = 0; shelf = shelf_of u }) out
 unfolding Comes Serves
-tried_opened sh s out h q ended =
+turned_opened sh s ended out h q =
     turned_same h (record { line = []; comes = (refl, refl, (refl, ap shelf_of q)); printed = no_line out })
 
 -- a call
@@ -180,10 +175,10 @@ answers_there : (sh : Shelf) {u v : Unit} {a : Asked} {out after : List ℕ} {n 
     → Answers (unit_of sh) a out n v after
 answers_there sh {v = v} {a = a} {out = out} {after = after} {n = n} e w = subst (λ x. Answers (or_new x) a out n v after) (sym e) w
 
-pub tried_answered : (sh : Shelf) (s : List ℕ) {o : Out Due} {a : Asked} {e : ℕ} {out after : List ℕ} {n : ℕ} {u v : Unit}
-    → o ≡ got (asks a) e → sh.unit ≡ Some u → Answers u a out n v after
-    → Tried sh s o out (Ok (record { next = Served; used = e; length = n; shelf = shelf_of v })) after
+pub turned_answered : (sh : Shelf) (s : List ℕ) (ended : Bool) {o : Out Due} {a : Asked} {e : ℕ} {out after : List ℕ} {u : Unit} {t : Turn}
+    → o ≡ got (asks a) e → sh.unit ≡ Some u → Answered u a e out t after → Turned sh s ended o out t after
 unfolding Comes Serves
-tried_answered sh s {a = a} {v = v} h q p ended =
-    let w = answers_there sh q p in
-    turned_same h (record { line = line_of a w.reply; comes = (refl, refl, (w.reply, v, w.does, refl, refl)); printed = w.printed })
+turned_answered sh s ended {a = a} h q p =
+    let w = answers_there sh q p.answers in
+    let k = p.ends in
+    turned_same h (record { line = line_of a w.reply; comes = (k.0, k.1, (w.reply, p.unit, w.does, refl, k.2)); printed = w.printed })

@@ -10,12 +10,12 @@ ghost use Rattle.unit.specs.Told.{told_verdict};
 ghost use Rattle.line.specs.Printed.{Printed};
 ghost use Rattle.service.specs.Shelf.{due, closed, unit_of, opened, Turned};
 ghost use Rattle.service.specs.Shelf.{waits as waits_of};
-ghost use Rattle.service.specs.Parts.{verdict_line, Read, Answers, Tried};
+ghost use Rattle.service.specs.Parts.{verdict_line, Read, Answers, Leaves, Answered};
 
 use field::{Fault, Refusal};
 use line::{Line, Word, refuse_at, say};
 use stream::{Call, ROOM_MOST};
-use unit::Unit;
+use unit::{Done, Unit};
 
 // A unit as a process: its number is due first, and then its calls.
 #[derive(Clone, Copy)]
@@ -84,57 +84,42 @@ fn explain(u: Unit, sheet: &[u8], block: u32, disk: u32, line: &mut Line) -> usi
     }
 }
 
-// What the unit answers to a call that was read: the length of its line, and the unit afterwards. Each arm does another thing: a match and
-// no table. `Sound` is a premise: theorems equate units (`rent_same`, `rent_new`), and a ghost fact in `Unit` would be equated with them.
-fn answer(u: Unit, s: &[u8], call: Call, line: &mut Line) -> (usize, Unit)
-    requires { Sound u × Read s.now call }
-    ensures { Answers u (asked_by s.now call) line.old result.0 result.1 line.new }
+// The turn of a call that was done: a word where it was accepted, else its refusal.
+fn served(w: Word, done: Done, used: usize, line: &mut Line) -> Turn
+    ensures { Leaves used done.unit result × Printed (verdict_line w (told_verdict done.answer)) line.old result.length line.new }
 {
-    match call {
-        Call::Rent(tenancy) => {
-            let done = u.rent(tenancy);
-            (verdict(Word::Rented, done.answer, line), done.unit)
-        }
-        Call::Settings(sheet) => {
-            let done = u.settings(sheet.of(s));
-            (verdict(Word::Set, done.answer, line), done.unit)
-        }
-        Call::Request(room, sheet) => (request(u, room, sheet.of(s), line), u),
-        Call::Return(tenancy) => {
-            let done = u.give_back(tenancy);
-            (verdict(Word::Returned, done.answer, line), done.unit)
-        }
-        Call::Why(block, disk, sheet) => (explain(u, sheet.of(s), block, disk, line), u),
+    Turn {
+        next: Next::Served,
+        used,
+        length: verdict(w, done.answer, line),
+        shelf: Shelf {
+            unit: Some(done.unit),
+        },
     }
 }
 
-// What is due, where it stands whole: the unit's number, and then a call.
-fn whole(shelf: Shelf, s: &[u8], line: &mut Line) -> Result<Turn, Fault>
-    requires { Sound (unit_of shelf) }
-    ensures { Tried shelf s.now (due (opened shelf) s.now 0) line.old result line.new }
+// What the unit answers to a call that was read, as a turn that ends at a place. Each arm does another thing: a match and no table. `Sound`
+// is a premise: theorems equate units (`rent_same`, `rent_new`), and a ghost fact in `Unit` would be equated with them.
+fn answer(u: Unit, s: &[u8], call: Call, used: usize, line: &mut Line) -> Turn
+    requires { Sound u × Read s.now call }
+    ensures { Answered u (asked_by s.now call) used line.old result line.new }
 {
-    match shelf.unit {
-        Some(u) => {
-            let (call, used) = stream::read_call(s)?;
-            let (length, unit) = answer(u, s, call, line);
-            Ok(Turn {
-                next: Next::Served,
-                used,
-                length,
-                shelf: Shelf { unit: Some(unit) },
-            })
-        }
-        None => {
-            let (number, used) = field::number(s, 0)?;
-            Ok(Turn {
-                next: Next::Served,
-                used,
-                length: 0,
-                shelf: Shelf {
-                    unit: Some(Unit::new(number)),
-                },
-            })
-        }
+    match call {
+        Call::Rent(tenancy) => served(Word::Rented, u.rent(tenancy), used, line),
+        Call::Settings(sheet) => served(Word::Set, u.settings(sheet.of(s)), used, line),
+        Call::Request(room, sheet) => Turn {
+            next: Next::Served,
+            used,
+            length: request(u, room, sheet.of(s), line),
+            shelf: Shelf { unit: Some(u) },
+        },
+        Call::Return(tenancy) => served(Word::Returned, u.give_back(tenancy), used, line),
+        Call::Why(block, disk, sheet) => Turn {
+            next: Next::Served,
+            used,
+            length: explain(u, sheet.of(s), block, disk, line),
+            shelf: Shelf { unit: Some(u) },
+        },
     }
 }
 
@@ -170,13 +155,27 @@ fn unserved(shelf: Shelf, s: &[u8], e: Fault, ended: bool, line: &mut Line) -> T
     turn
 }
 
-// What stands next in the bytes, told whether more can come.
+// What stands next in the bytes, told whether more can come: the unit's number, and then a call. Two matches and no `?`: a `Turn` holds a
+// unit, which a `Result` clears and moves once more.
 pub fn serve(shelf: Shelf, s: &[u8], ended: bool, line: &mut Line) -> Turn
     requires { Sound (unit_of shelf) }
     ensures { Turned shelf s.now ended (due (opened shelf) s.now 0) line.old result line.new }
 {
-    match whole(shelf, s, line) {
-        Ok(turn) => turn,
-        Err(e) => unserved(shelf, s, e, ended, line),
+    match shelf.unit {
+        Some(u) => match stream::read_call(s) {
+            Ok((call, used)) => answer(u, s, call, used, line),
+            Err(e) => unserved(shelf, s, e, ended, line),
+        },
+        None => match field::number(s, 0) {
+            Ok((number, used)) => Turn {
+                next: Next::Served,
+                used,
+                length: 0,
+                shelf: Shelf {
+                    unit: Some(Unit::new(number)),
+                },
+            },
+            Err(e) => unserved(shelf, s, e, ended, line),
+        },
     }
 }

@@ -41,10 +41,14 @@ fn count_among(b: usize, q: usize, masks: &Masks, x: u64) -> u64
     requires { (b ≤ q) × (q ≤ blocks_most) }
     ensures { result ≡ count_from b q masks.now x }
 {
-    masks[b..q]
-        .iter()
-        .filter(|copies| all_in(**copies, x))
-        .count() as u64
+    let mut total: u64 = 0;
+    // No `filter` and `count`: tried, and took three times the instructions, block by block and not four at a time.
+    for i in b..q {
+        if all_in(masks[i], x) {
+            total += 1;
+        }
+    }
+    total
 }
 
 // A later time: the disks of x are full, so the blocks that have all copies there are short, by block b and those after it, until the disks

@@ -2,9 +2,8 @@
 #![tactic(auto)]
 
 ghost use Rattle.std.specs.Prelude.{◌≡◌, length};
-ghost use Rattle.field.specs.Refusal.{note_of};
 ghost use Rattle.planner.specs.Lists.{Asks};
-ghost use Rattle.unit.specs.Life.{takes, refuses, rent, set, give_back};
+ghost use Rattle.unit.specs.Life.{rent, set, give_back};
 ghost use Rattle.unit.specs.Request.{asked_of, Replied};
 ghost use Rattle.unit.specs.Sound.{Sound};
 ghost use Rattle.unit.specs.Told.{told};
@@ -65,40 +64,29 @@ impl Unit {
         if self.rented { self.last } else { 0 }
     }
 
-    // A call was accepted, and leaves the unit so.
-    fn accepted(self) -> Done
-        ensures { told result ≡ takes self }
-    {
-        Done {
-            answer: Ok(()),
-            unit: self,
-        }
-    }
-
-    // A call was refused, and leaves the unit as it was.
-    fn refused(self, fault: Fault) -> Done
-        ensures { told result ≡ refuses self (note_of fault) }
-    {
-        Done {
-            answer: Err(fault),
-            unit: self,
-        }
-    }
-
     // Rents the unit. The table is cleared here too, though a returned unit has none.
     pub fn rent(mut self, tenancy: u32) -> Done
         ensures { told result ≡ rent self tenancy }
     {
         if self.rented {
-            return self.refused(Refusal::Rented.at(0));
+            return Done {
+                answer: Err(Refusal::Rented.at(0)),
+                unit: self,
+            };
         }
         if tenancy <= self.last {
-            return self.refused(Refusal::NotAbove.at(0));
+            return Done {
+                answer: Err(Refusal::NotAbove.at(0)),
+                unit: self,
+            };
         }
         self.last = tenancy;
         self.rented = true;
         self.table = settings::empty();
-        self.accepted()
+        Done {
+            answer: Ok(()),
+            unit: self,
+        }
     }
 
     // Takes a settings sheet: the whole table is replaced.
@@ -108,9 +96,15 @@ impl Unit {
         match settings::read(sheet, self.number, self.tenancy()) {
             Ok(table) => {
                 self.table = table;
-                self.accepted()
+                Done {
+                    answer: Ok(()),
+                    unit: self,
+                }
             }
-            Err(e) => self.refused(e),
+            Err(e) => Done {
+                answer: Err(e),
+                unit: self,
+            },
         }
     }
 
@@ -119,11 +113,17 @@ impl Unit {
         ensures { told result ≡ give_back self tenancy }
     {
         if !self.rented || tenancy != self.last {
-            return self.refused(Refusal::NotTheTenant.at(0));
+            return Done {
+                answer: Err(Refusal::NotTheTenant.at(0)),
+                unit: self,
+            };
         }
         self.rented = false;
         self.table = settings::empty();
-        self.accepted()
+        Done {
+            answer: Ok(()),
+            unit: self,
+        }
     }
 
     // The case that the unit and a request sheet spell, as lists.

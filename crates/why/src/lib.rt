@@ -22,9 +22,9 @@ pub struct Reasoned {
 }
 
 // The reason of a block and a disk of what was asked.
-fn lend(said: Spelling, block: usize, disk: usize) -> Reason
-    requires { Asked said block disk }
-    ensures { Reasons (case_lent said) block disk result }
+fn lend(said: &Spelling, block: usize, disk: usize) -> Reason
+    requires { Asked said.now block disk }
+    ensures { Reasons (case_lent said.now) block disk result }
 {
     reason::explain(said.copies(), said.costs(), said.starts(), block, disk)
 }
@@ -34,7 +34,12 @@ fn answer(u: Unit, sheet: &[u8], block: u32, disk: u32) -> Result<Reason, Fault>
     requires { Sound u }
     ensures { Explains (within (asked_of u sheet.now) block disk) block disk (told_why result) }
 {
-    let said = u.ask(sheet)?;
+    let asked = u.ask(sheet);
+    // A match that looks at what was asked where it is: `?` moves it.
+    let said = match &asked {
+        Ok(said) => said,
+        Err(e) => return Err(*e),
+    };
     if said.blocks <= block as usize || said.disks <= disk as usize {
         return Err(Refusal::BadIndex.at(0));
     }

@@ -1,6 +1,7 @@
 -- `ready`: unit and tenancy, the rent, the settings' sheet and the settings, the request's sheet, the end of the input.
-use mathlib.Core.Path.{sym, ap, ◌∙◌}
+use mathlib.Core.Path.{refl, sym, ap, ◌∙◌}
 use Rattle.basics.proofs.Question.{passed_on}
+use Rattle.field.proofs.Readers.{refused_as, end_here, end_extra}
 use Rattle.unit.specs.declared.Unit.{Unit}
 use Rattle.unit.specs.Life.{rent}
 use Rattle.console.proofs.Benching.{readied_refused, input_hires, input_no_tenancy, input_no_unit, hire_taken, hire_denied}
@@ -45,13 +46,14 @@ returns-in_err-request c =
     ∙ apply_taken _ _ _ c.in_ok-settings.settings c.in_ok-settings.ensures.0 (rw c.of.ensures at c.settings-set.ensures) c.in_ok-set.was
     ∙ close_stops _ _ _ c.in_err-request.ensures)
 
-pub returns-in_err-end : goal.returns-in_err-end
-returns-in_err-end c =
-    readied_refused _ (passed_on c.from_residual-in_err-end.ensures)
+pub returns-then-request-input : goal.returns-then-request-input
+returns-then-request-input c =
+    readied_refused c.args.input.now refl
     (input_hires _ (sym c.in_ok-number.ensures) (sym c.in_ok-tenancy.ensures)
     ∙ hire_taken _ _ _ _ (c.rent-rented.ensures ∙ ap (λ (u : Unit). rent u c.in_ok-tenancy.tenancy) c.new.ensures) c.in_ok-rented.was
     ∙ apply_taken _ _ _ c.in_ok-settings.settings c.in_ok-settings.ensures.0 (rw c.of.ensures at c.settings-set.ensures) c.in_ok-set.was
-    ∙ close_extra _ _ _ c.in_ok-request.request c.in_ok-request.ensures.0 (sym c.in_err-end.ensures))
+    ∙ close_extra _ _ _ c.in_ok-request.request c.in_ok-request.ensures.0
+    (end_extra _ _ c.if-request-input.true ∙ sym (refused_as c.at.ensures)))
 
 pub returns : goal.returns
 returns c = (
@@ -59,7 +61,7 @@ returns c = (
   input_hires _ (sym c.in_ok-number.ensures) (sym c.in_ok-tenancy.ensures)
       ∙ hire_taken _ _ _ _ (c.rent-rented.ensures ∙ ap (λ (u : Unit). rent u c.in_ok-tenancy.tenancy) c.new.ensures) c.in_ok-rented.was
       ∙ apply_taken _ _ _ c.in_ok-settings.settings c.in_ok-settings.ensures.0 (rw c.of.ensures at c.settings-set.ensures) c.in_ok-set.was
-      ∙ close_got _ _ _ c.in_ok-request.request c.in_ok-request.ensures.0 (sym c.in_ok-end.ensures),
+      ∙ close_got _ _ _ c.in_ok-request.request c.in_ok-request.ensures.0 (end_here _ _ c.if-request-input.false),
   rented_set _ _
       (rented_new _ _ _ (c.rent-rented.ensures ∙ ap (λ (u : Unit). rent u c.in_ok-tenancy.tenancy) c.new.ensures) c.in_ok-rented.was)
       c.settings-set.ensures,

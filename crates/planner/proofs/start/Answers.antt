@@ -1,5 +1,6 @@
 -- `start` meets its contract, rule by rule: the sum, or the larger of the two.
-use mathlib.Core.Path.{sym, ap, ◌∙◌}
+use native.Mathlib.Omega.{arith}
+use mathlib.Core.Path.{sym, ap}
 use Rattle.model.specs.declared.Rule.{Rule}
 use Rattle.model.specs.Case.{starting}
 use Rattle.planner.proofs.start.Goals as goal
@@ -10,4 +11,4 @@ returns-in-Sum c = sym (ap (λ (r : Rule). starting r c.args.delay c.args.load) 
 
 pub returns-in-Larger : goal.returns-in-Larger
 unfolding starting
-returns-in-Larger c = c.max.ensures ∙ sym (ap (λ (r : Rule). starting r c.args.delay c.args.load) c.in-Larger.is)
+returns-in-Larger c = omega (arith, ap (λ (r : Rule). starting r c.args.delay c.args.load) c.in-Larger.is)

@@ -1,24 +1,51 @@
 -- `timing::count_among` meets its contract.
-use Rattle.std.proofs.Common.{◌≡◌, ℕ, ◌-◌, ◌+◌, Bool, List, rules, tests, arith, ap, ◌∙◌, take, drop, length}
-use Rattle.std.specs.List.{filter}
-use mathlib.Core.Bool.{◌&&◌}
+use Prim.Native.Nat.{ℕ}
+use mathlib.Core.Path.{◌≡◌, ap, sym, ◌∙◌}
+use mathlib.Core.Bool.{Bool, ◌&&◌}
 use lib.Dec.{leb}
-use Rattle.std.proofs.lemmas.Iterator.{YieldsList-from_slice}
-use Rattle.std.proofs.lemmas.Iterator.Consumers.{count_from_yields_List, YieldsList-from_filter}
-use Rattle.std.proofs.lemmas.List.Sums.{length-filter}
 use Rattle.basics.specs.Count.{count}
-use Rattle.places.specs.Among.{inside, among}
-use Rattle.timing.proofs.Counts.{count_from_list}
+use Rattle.places.specs.Among.{among}
+use Rattle.timing.proofs.Counts.{count_from_start, count_from_more, count_from_same}
+use native.Mathlib.Omega.{arith}
+use Rattle.timing.proofs.count_among.Goals.{then-all_in, else-all_in}
 use Rattle.timing.proofs.count_among.Goals as goal
+
+pub loop-i-init : goal.loop-i-init
+loop-i-init c = (omega arith, c.requires.0, sym (count_from_start (among c.args.masks.now c.args.x) c.args.b), omega arith)
+
+pub loop-i-preserved : goal.loop-i-preserved
+loop-i-preserved c =
+    let a = c.args in
+    let l = c.loop-i in
+    let p : ℕ → Bool = among a.masks.now a.x in
+    elim c.if-all_in.branch [
+      | then-all_in s ↦ (
+        omega arith,
+        omega arith,
+        omega (
+          arith,
+          s.total-is,
+          l.invariant.2,
+          count_from_more p a.b l.i l.invariant.0 (sym c.all_in.ensures ∙ s.if-all_in.true),
+        ),
+        omega (arith, s.total-is, l.invariant.3),
+      )
+      | else-all_in s ↦ (
+        omega arith,
+        omega arith,
+        omega (
+          arith,
+          s.total-is,
+          l.invariant.2,
+          count_from_same p a.b l.i (sym c.all_in.ensures ∙ s.if-all_in.false),
+        ),
+        omega (arith, s.total-is, l.invariant.3),
+      )
+    ]
 
 pub returns : goal.returns
 returns c =
     let a = c.args in
-    let xs : List ℕ = take (a.q - a.b) (drop a.b a.masks.now) in
-    let p : ℕ → Bool = λ m. inside m a.x in
-    let e : c.count.result ≡ length (filter p xs) =
-    count_from_yields_List c.filter.result _ c.count.ensures.ran
-    (YieldsList-from_filter _ p (YieldsList-from_slice xs (cc)) c.filter.ensures.closure (λ x r q k. search (rules, tests))) in
-    let s : a.b + (a.q - a.b) ≡ a.q = omega arith in
-    e ∙ length-filter p xs ∙ count_from_list p a.masks.now a.b (a.q - a.b) (omega arith)
-    ∙ ap (λ (y : ℕ). count y (λ i. among a.masks.now a.x i && leb a.b i)) s
+    let l = c.loop-i in
+    let e : l.i ≡ a.q = omega arith in
+    l.invariant.2 ∙ ap (λ (y : ℕ). count y (λ j. among a.masks.now a.x j && leb a.b j)) e

@@ -6,7 +6,7 @@ use Rattle.why.proofs.lend.Goals as goal
 
 pub explain-requires : goal.explain-requires
 explain-requires c =
-    let said = c.args.said in
+    let said = c.args.said.now in
     let lent = c.requires.0 in
     rw c.copies.ensures (rw c.costs.ensures (rw c.starts.ensures (
       spellable lent.3,

@@ -8,11 +8,11 @@ use Rattle.unit.proofs.Unit.give_back.Goals.{then-not-self-via-then-not-self, th
 
 pub returns-then-not-self : goal.returns-then-not-self
 returns-then-not-self c =
-    c.refused.ensures ∙ ap (λ f. refuses c.args.self (note_of f)) c.at.ensures
+    ap (λ f. refuses c.args.self (note_of f)) c.at.ensures
     ∙ sym (elim c.then-not-self.branch [
       | then-not-self-via-then-not-self w ↦ back_free _ _ (not_rented _ w.if-not-self.true)
       | then-not-self-via-else-not-self+then-tenancy-self w ↦ back_other _ _ (is_rented _ w.if-not-self.false) w.if-tenancy-self.true
     ])
 
 pub returns : goal.returns
-returns c = c.accepted.ensures ∙ sym (back_anew _ _ (is_rented _ c.if-not-self.false) c.if-tenancy-self.false _ c.empty-self.ensures)
+returns c = sym (back_anew _ _ (is_rented _ c.if-not-self.false) c.if-tenancy-self.false _ c.empty-self.ensures)

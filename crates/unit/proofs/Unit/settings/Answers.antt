@@ -5,8 +5,8 @@ use Rattle.unit.proofs.Unit.settings.Goals as goal
 
 pub returns-in-Ok : goal.returns-in-Ok
 returns-in-Ok c =
-    c.accepted.ensures ∙ sym (set_found _ _ _ c.tenancy.ensures ∙ settled_accepted _ _ _ _ c.read.ensures c.in-Ok.is)
+    sym (set_found _ _ _ c.tenancy.ensures ∙ settled_accepted _ _ _ _ c.read.ensures c.in-Ok.is)
 
 pub returns-in-Err : goal.returns-in-Err
 returns-in-Err c =
-    c.refused.ensures ∙ sym (set_found _ _ _ c.tenancy.ensures ∙ settled_refused _ _ _ _ c.read.ensures _ c.in-Err.is)
+    sym (set_found _ _ _ c.tenancy.ensures ∙ settled_refused _ _ _ _ c.read.ensures _ c.in-Err.is)

@@ -4,7 +4,7 @@ use mathlib.Core.Path.{sym}
 use Prim.Native.Nat.{ℕ}
 use lib.ListN.{length-take}
 use Rattle.planner.proofs.Asking.{said_count, asks_case, asks_refused, asked_not}
-use Rattle.planner.proofs.ask.Goals as goal
+use Rattle.planner.proofs.spell.Goals as goal
 
 pub returns-in-Err : goal.returns-in-Err
 returns-in-Err c = asks_refused (asked_not _ _ c.requires _ _ c.out_of-out.ensures _ c.in-Err.ensures)
