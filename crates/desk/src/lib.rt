@@ -1,7 +1,7 @@
 // The desk end: lists lent as bytes, one call, one packed answer. `desk_c` exports these functions to C.
 #![tactic(auto)]
 
-ghost use Rattle.std.specs.Prelude.{◌≡◌, ◌≤◌, true, false, MatchResult, take};
+ghost use Rattle.std.specs.Prelude.{◌<◌, ◌≡◌, ◌≤◌, true, false, MatchResult, take};
 ghost use Rattle.basics.specs.Limits.{disks_most};
 ghost use Rattle.field.specs.declared.Refusal.TheVariants.{OutOfRange};
 ghost use Rattle.field.specs.Refusal.{fault_at};
@@ -45,13 +45,14 @@ impl Numbers {
     }
 }
 
-// Whether a list is one of numbers; 6 where it is broken or too long.
-fn whole(bytes: &[u8]) -> Result<(), Fault>
+// Whether a list is one of numbers of so many bytes; 6 where it is broken or too long.
+fn whole(bytes: &[u8], width: usize) -> Result<(), Fault>
+    requires { 0 < width }
     ensures { MatchResult result
-        (λ a. usable 4 disks_most bytes.now ≡ true)
-        (λ f. (usable 4 disks_most bytes.now ≡ false) × (f ≡ fault_at OutOfRange 0)) }
+        (λ a. usable width disks_most bytes.now ≡ true)
+        (λ f. (usable width disks_most bytes.now ≡ false) × (f ≡ fault_at OutOfRange 0)) }
 {
-    if !lent::usable(bytes, 4, DISKS) {
+    if !lent::usable(bytes, width, DISKS) {
         return Err(Refusal::OutOfRange.at(0));
     }
     Ok(())
@@ -63,9 +64,9 @@ fn rows(costs: &[u8], loads: &[u8], delays: &[u8]) -> Result<(), Fault>
         (λ a. usable_rows costs.now loads.now delays.now ≡ true)
         (λ f. (usable_rows costs.now loads.now delays.now ≡ false) × (f ≡ fault_at OutOfRange 0)) }
 {
-    whole(costs)?;
-    whole(loads)?;
-    whole(delays)?;
+    whole(costs, 4)?;
+    whole(loads, 4)?;
+    whole(delays, 4)?;
     Ok(())
 }
 
@@ -107,7 +108,7 @@ fn write_marked(
         out.old result out.new }
 {
     rows(costs, loads, delays)?;
-    whole(marks)?;
+    whole(marks, 4)?;
     let c = Numbers::of(costs);
     let l = Numbers::of(loads);
     let d = Numbers::of(delays);
