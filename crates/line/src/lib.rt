@@ -6,7 +6,7 @@ ghost use Rattle.field.specs.Put.{spell_all};
 ghost use Rattle.field.specs.Refusal.{number_of};
 ghost use Rattle.line.specs.Text.{decimal, spaced, hex};
 ghost use Rattle.line.specs.Text.{digit as digit_of};
-ghost use Rattle.line.specs.Line.{feed, bar, word_plan, spoken, plan_line, sheet_line};
+ghost use Rattle.line.specs.Line.{feed, word_plan, spoken, plan_line, sheet_line};
 ghost use Rattle.line.specs.Printed.{Printed};
 ghost use Rattle.line.specs.Parts.{Writes};
 
@@ -162,11 +162,11 @@ impl Pen<'_> {
         self.list(&[unit, tenancy, q, time]);
     }
 
-    // A list behind a bar.
-    fn barred<T: Numeral>(&mut self, xs: &[T])
-        ensures { Writes (bar ++ spell_all (λ x. spaced (T.value x)) xs.now) self.old self.new }
+    // A list behind its bar. Each list of a line is told its own, so that a slip in one of them is a slip in that one.
+    fn barred<T: Numeral>(&mut self, bar: &[u8], xs: &[T])
+        ensures { Writes (bar.now ++ spell_all (λ x. spaced (T.value x)) xs.now) self.old self.new }
     {
-        self.text(b" |");
+        self.text(bar);
         self.list(xs);
     }
 }
@@ -211,8 +211,8 @@ pub fn plan_line(
     }
     let mut pen = Pen { out: line, at: 0 };
     pen.heading(unit, tenancy, disks.len() as u32, time);
-    pen.barred(disks);
-    pen.barred(short);
+    pen.barred(b" |", disks);
+    pen.barred(b" |", short);
     pen.byte(b'\n');
     pen.at
 }

@@ -1,7 +1,7 @@
 // One number of a sheet: read it, write it in its shortest form, find its width.
 #![tactic(auto)]
 
-ghost use Rattle.std.specs.Prelude.{◌≡◌, ◌≤◌, length};
+ghost use Rattle.std.specs.Prelude.{◌≡◌, ◌≤◌, ◌<◌, length, get_or};
 ghost use Rattle.number.specs.Decode.{decode, more};
 ghost use Rattle.number.specs.Encode.{width_of, WroteNumber};
 ghost use Rattle.number.specs.Told.{told};
@@ -48,6 +48,16 @@ fn groups(s: &[u8], left: u32) -> Number
     Ok((b % 128 + 128 * v, n + 1))
 }
 
+// A number of two bytes or more, whose first is told. A function of its own: a place for what `groups` answers is cleared where a function
+// begins, and most of a request's numbers have one byte.
+fn longer(b: u32, s: &[u8]) -> Number
+    requires { (0 < length s.now) × (get_or s.now 0 0 ≡ b) × (128 ≤ b) }
+    ensures { told result ≡ decode s.now }
+{
+    let (v, n) = groups(&s[1..], 3)?;
+    Ok((b % 128 + 128 * v, n + 1))
+}
+
 // The number at the start of a slice.
 pub fn read(s: &[u8]) -> Number
     ensures { told result ≡ decode s.now }
@@ -59,8 +69,7 @@ pub fn read(s: &[u8]) -> Number
     if b < 128 {
         return Ok((b, 1));
     }
-    let (v, n) = groups(&s[1..], 3)?;
-    Ok((b % 128 + 128 * v, n + 1))
+    longer(b, s)
 }
 
 // The bytes of the shortest form.

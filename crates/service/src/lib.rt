@@ -85,8 +85,8 @@ fn explain(u: Unit, sheet: &[u8], block: u32, disk: u32, line: &mut Line) -> usi
 }
 
 // The turn of a call that was done: a word where it was accepted, else its refusal.
-fn served(w: Word, done: Done, used: usize, line: &mut Line) -> Turn
-    ensures { Leaves used done.unit result × Printed (verdict_line w (told_verdict done.answer)) line.old result.length line.new }
+fn served(w: Word, done: &Done, used: usize, line: &mut Line) -> Turn
+    ensures { Leaves used done.now.unit result × Printed (verdict_line w (told_verdict done.now.answer)) line.old result.length line.new }
 {
     Turn {
         next: Next::Served,
@@ -98,27 +98,28 @@ fn served(w: Word, done: Done, used: usize, line: &mut Line) -> Turn
     }
 }
 
-// What the unit answers to a call that was read, as a turn that ends at a place. Each arm does another thing: a match and no table. `Sound`
-// is a premise: theorems equate units (`rent_same`, `rent_new`), and a ghost fact in `Unit` would be equated with them.
-fn answer(u: Unit, s: &[u8], call: Call, used: usize, line: &mut Line) -> Turn
-    requires { Sound u × Read s.now call }
-    ensures { Answered u (asked_by s.now call) used line.old result line.new }
+// What the unit answers to a call that was read, as a turn that ends at a place. Each arm does another thing: a match and no table. Units
+// and their answers are looked at where they stand: by value, each hand copied a kilobyte. `Sound` is a premise: theorems equate units
+// (`rent_same`, `rent_new`), and a ghost fact in `Unit` would be equated with them.
+fn answer(u: &Unit, s: &[u8], call: Call, used: usize, line: &mut Line) -> Turn
+    requires { Sound u.now × Read s.now call }
+    ensures { Answered u.now (asked_by s.now call) used line.old result line.new }
 {
     match call {
-        Call::Rent(tenancy) => served(Word::Rented, u.rent(tenancy), used, line),
-        Call::Settings(sheet) => served(Word::Set, u.settings(sheet.of(s)), used, line),
+        Call::Rent(tenancy) => served(Word::Rented, &u.rent(tenancy), used, line),
+        Call::Settings(sheet) => served(Word::Set, &u.settings(sheet.of(s)), used, line),
         Call::Request(room, sheet) => Turn {
             next: Next::Served,
             used,
-            length: request(u, room, sheet.of(s), line),
-            shelf: Shelf { unit: Some(u) },
+            length: request(*u, room, sheet.of(s), line),
+            shelf: Shelf { unit: Some(*u) },
         },
-        Call::Return(tenancy) => served(Word::Returned, u.give_back(tenancy), used, line),
+        Call::Return(tenancy) => served(Word::Returned, &u.give_back(tenancy), used, line),
         Call::Why(block, disk, sheet) => Turn {
             next: Next::Served,
             used,
-            length: explain(u, sheet.of(s), block, disk, line),
-            shelf: Shelf { unit: Some(u) },
+            length: explain(*u, sheet.of(s), block, disk, line),
+            shelf: Shelf { unit: Some(*u) },
         },
     }
 }
@@ -131,21 +132,21 @@ fn waits(e: Fault, ended: bool) -> bool
 }
 
 // Whether the input ends here between two calls.
-fn between_calls(shelf: Shelf, s: &[u8]) -> bool
-    ensures { result ≡ (opened shelf && eqb (length s.now) 0) }
+fn between_calls(shelf: &Shelf, s: &[u8]) -> bool
+    ensures { result ≡ (opened shelf.now && eqb (length s.now) 0) }
 {
     shelf.unit.is_some() && s.is_empty()
 }
 
 // Nothing whole is there. More bytes may complete it, if any can come; else the shelf is done, with a line if the stream is damaged.
-fn unserved(shelf: Shelf, s: &[u8], e: Fault, ended: bool, line: &mut Line) -> Turn
-    ensures { Turned shelf s.now ended (refused (note_of e)) line.old result line.new }
+fn unserved(shelf: &Shelf, s: &[u8], e: Fault, ended: bool, line: &mut Line) -> Turn
+    ensures { Turned shelf.now s.now ended (refused (note_of e)) line.old result line.new }
 {
     let mut turn = Turn {
         next: Next::Done,
         used: 0,
         length: 0,
-        shelf,
+        shelf: *shelf,
     };
     if waits(e, ended) {
         turn.next = Next::Wants;
@@ -161,10 +162,10 @@ pub fn serve(shelf: Shelf, s: &[u8], ended: bool, line: &mut Line) -> Turn
     requires { Sound (unit_of shelf) }
     ensures { Turned shelf s.now ended (due (opened shelf) s.now 0) line.old result line.new }
 {
-    match shelf.unit {
+    match &shelf.unit {
         Some(u) => match stream::read_call(s) {
             Ok((call, used)) => answer(u, s, call, used, line),
-            Err(e) => unserved(shelf, s, e, ended, line),
+            Err(e) => unserved(&shelf, s, e, ended, line),
         },
         None => match field::number(s, 0) {
             Ok((number, used)) => Turn {
@@ -175,7 +176,7 @@ pub fn serve(shelf: Shelf, s: &[u8], ended: bool, line: &mut Line) -> Turn
                     unit: Some(Unit::new(number)),
                 },
             },
-            Err(e) => unserved(shelf, s, e, ended, line),
+            Err(e) => unserved(&shelf, s, e, ended, line),
         },
     }
 }

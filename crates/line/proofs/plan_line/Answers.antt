@@ -2,7 +2,7 @@
 use native.Mathlib.Omega.{arith}
 use borrow.Author.Rules.{rules}
 use mathlib.Core.Path.{refl}
-use Rattle.line.specs.Line.{feed}
+use Rattle.line.specs.Line.{feed, bar}
 use Rattle.plan.specs.Plan.{plan_of}
 use Rattle.line.proofs.Adding.{writes_line}
 use Rattle.line.proofs.Lines.{uncounted, plan_bound, plan_written}
@@ -12,7 +12,7 @@ pub returns-then-disks-gt-BLOCKS : goal.returns-then-disks-gt-BLOCKS
 returns-then-disks-gt-BLOCKS c = uncounted _ _ _ _ c.then-disks-gt-BLOCKS.either
 
 pub returns : goal.returns
-unfolding feed
+unfolding feed bar
 returns c =
     let k = c.if-disks-gt-BLOCKS.false in
     let l = c.if-short-gt-BLOCKS.false in

@@ -27,7 +27,8 @@ returns-in-Settings c =
 
 pub returns-in-Request : goal.returns-in-Request
 returns-in-Request c =
-    rw c.in-Request.is (record { unit = c.args.u; ends = (refl, refl, refl); answers = rw c.of-in-Request.ensures at c.request.ensures })
+    rw c.in-Request.is
+    (record { unit = c.args.u.now; ends = (refl, refl, refl); answers = rw c.of-in-Request.ensures at c.request.ensures })
 
 pub returns-in-Return : goal.returns-in-Return
 unfolding call_of accepted_line
@@ -40,4 +41,4 @@ returns-in-Return c =
 
 pub returns-in-Why : goal.returns-in-Why
 returns-in-Why c =
-    rw c.in-Why.is (record { unit = c.args.u; ends = (refl, refl, refl); answers = rw c.of-in-Why.ensures at c.explain.ensures })
+    rw c.in-Why.is (record { unit = c.args.u.now; ends = (refl, refl, refl); answers = rw c.of-in-Why.ensures at c.explain.ensures })
