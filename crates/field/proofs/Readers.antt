@@ -29,8 +29,8 @@ pub refused_as : {A : Type 0} {f g : Fault} → f ≡ g → ◌≡◌ {A = Out A
 refused_as e = ap (λ f. refused (note_of f)) e
 
 module _ (s : List ℕ) (at : ℕ) where
-  -- past the end no number is due any more
-  pub number_past : length s < at → number s at ≡ refused (note 1 (length s))
+  -- from the end on no number is due any more
+  pub number_past : length s ≤ at → number s at ≡ refused (note 1 (length s))
   unfolding number taken pick
   number_past h = ap (taken (length s) at) (decode_none (drop at s) (length-drop at s ∙ omega arith))
 

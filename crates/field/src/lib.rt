@@ -107,7 +107,7 @@ impl Refusal {
 pub fn number(s: &[u8], at: usize) -> Field
     ensures { told result ≡ number_at s.now at }
 {
-    if s.len() < at {
+    if s.len() <= at {
         return Err(Refusal::SheetEnds.at(s.len()));
     }
     match number::read(&s[at..]) {

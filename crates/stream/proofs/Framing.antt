@@ -43,7 +43,7 @@ unfolding number
 number_within s at v e h =
     by_cases (leb at (length s))
     (λ t. ended_within s (length s) at v e (decode (drop at s)) refl (leb-true _ _ t) h)
-    (λ f. absurd (let x : refused (note 1 (length s)) ≡ got v e = sym (number_past s at (leb-false _ _ f)) ∙ h in
+    (λ f. absurd (let x : refused (note 1 (length s)) ≡ got v e = sym (number_past s at (omega (arith, leb-false _ _ f))) ∙ h in
     let z : ◌≡◌ {A = ℕ} 0 1 = cc in omega arith))
 
 -- ---- a sheet
